@@ -1,0 +1,47 @@
+-- The table of quads: each quad has four distinct positions of the state. Assumes nothing.
+use mathlib.Core.Path.{_≡_, refl}
+use mathlib.Core.Logic.{_≢_}
+use Prim.Native.Nat.{ℕ, zero, suc, _<_}
+use native.Mathlib.Omega.{arith}
+use native.Mathlib.Nat.{not-suc-le-zero, le-of-suc-le-suc}
+use mathlib.Core.List.{List, [], _∷_}
+use lib.ListN.{length, getD, drop}
+use lib.Seq.{drop-cons}
+use Rattle.sponge.specs.declared.permutation.Quad.{Quad}
+use Rattle.sponge.specs.Round.{quads, applyG, applyAll}
+
+pub record Spread (q : Quad) : Type 0 where
+  pub in0 : q .0 < 16
+  pub in1 : q .1 < 16
+  pub in2 : q .2 < 16
+  pub in3 : q .3 < 16
+  pub d01 : q .0 ≢ q .1
+  pub d02 : q .0 ≢ q .2
+  pub d03 : q .0 ≢ q .3
+  pub d12 : q .1 ≢ q .2
+  pub d13 : q .1 ≢ q .3
+  pub d23 : q .2 ≢ q .3
+
+-- a property of every element of a list
+abbrev pub Each : (Quad → Type 0) → List Quad → Type 0
+Each P [] = Unit {0}
+Each P (q ∷ qs) = P q × Each P qs
+
+pub each-at : (P : Quad → Type 0) (qs : List Quad) (d : Quad) → Each P qs → (n : ℕ) → n < length qs → P (getD qs n d)
+each-at P [] d all n h = absurd (not-suc-le-zero h)
+each-at P (q ∷ qs) d all zero h = all .0
+each-at P (q ∷ qs) d all (suc n) h = each-at P qs d (all .1) n (le-of-suc-le-suc h)
+
+pub quads-spread : Each Spread quads
+unfolding quads
+quads-spread =
+    (omega arith, (omega arith, (omega arith, (omega arith, (omega arith, (omega arith, (omega arith, (omega arith, tt))))))))
+
+pub quad-spread : (d : Quad) (n : ℕ) → n < 8 → Spread (getD quads n d)
+unfolding quads
+quad-spread d n h = each-at Spread quads d quads-spread n h
+
+-- one quad more
+pub applyAll-step : (sum : ℕ → ℕ → ℕ) (qs : List Quad) (d : Quad) (n : ℕ) (s : List ℕ) → n < length qs → applyAll sum (drop n qs) s ≡ applyAll sum (drop (suc n) qs) (applyG sum (getD qs n d) s)
+unfolding applyAll
+applyAll-step sum qs d n s h = rw (drop-cons qs n d)

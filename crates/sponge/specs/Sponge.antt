@@ -1,0 +1,19 @@
+-- Absorbing, duplexing and the output of the sponge.
+use Prim.Native.Nat.{ℕ}
+use mathlib.Core.List.{List}
+use lib.ListN.{getD}
+use Rattle.sponge.specs.Word.{plainSum, zipInto, xorInto, tabulate}
+use Rattle.sponge.specs.Round.{rounds}
+use Rattle.sponge.specs.Profile.{cellWords}
+
+-- words XORed into the first words of the state, then a call of n rounds
+unfoldable pub absorb : (ℕ → ℕ → ℕ) → ℕ → List ℕ → List ℕ → List ℕ
+absorb sum n words s = rounds sum n (xorInto s words)
+
+-- the output of the sponge, which document 01 names rand
+unfoldable pub rand : List ℕ → List ℕ
+rand s = tabulate cellWords (λ i. getD s i 0)
+
+-- the wordwise sum of two cells; it is a plain sum with every addition of G
+unfoldable pub cellSum : List ℕ → List ℕ → List ℕ
+cellSum = zipInto plainSum
