@@ -46,11 +46,11 @@ pub xor-assoc : (a b c : ℕ) → bitXor (bitXor a b) c ≡ bitXor a (bitXor b c
 xor-assoc =
     bin-ind (λ (a : ℕ). (b c : ℕ) → bitXor (bitXor a b) c ≡ bitXor a (bitXor b c)) (λ b c. refl)
     (λ a ih b c.
-        xor-step (bitXor a b) c
-        ∙ ap₂ (λ (x y : ℕ). bitXor x (c / 2) * 2 + differ y (c % 2)) (xor-rest a b) (xor-low a b)
-        ∙ ap₂ (λ (x y : ℕ). x * 2 + y) (ih (b / 2) (c / 2)) (differ-assoc (a % 2) (b % 2) (c % 2) (digit a) (digit b) (digit c))
-        ∙ ap₂ (λ (x y : ℕ). bitXor (a / 2) x * 2 + differ (a % 2) y) (sym (xor-rest b c)) (sym (xor-low b c))
-        ∙ sym (xor-step a (bitXor b c)))
+    xor-step (bitXor a b) c
+    ∙ ap₂ (λ (x y : ℕ). bitXor x (c / 2) * 2 + differ y (c % 2)) (xor-rest a b) (xor-low a b)
+    ∙ ap₂ (λ (x y : ℕ). x * 2 + y) (ih (b / 2) (c / 2)) (differ-assoc (a % 2) (b % 2) (c % 2) (digit a) (digit b) (digit c))
+    ∙ ap₂ (λ (x y : ℕ). bitXor (a / 2) x * 2 + differ (a % 2) y) (sym (xor-rest b c)) (sym (xor-low b c))
+    ∙ sym (xor-step a (bitXor b c)))
 
 pub xor-undo : (a b : ℕ) → bitXor (bitXor a b) b ≡ a
 xor-undo a b = xor-assoc a b b ∙ ap (bitXor a) (xor-self b) ∙ xor-zero-r a

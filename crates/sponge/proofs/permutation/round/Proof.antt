@@ -43,11 +43,13 @@ loop-less c = omega arith
 loop-again : tie.Need-loop-again Inv-loop μ-loop
 unfolding quads
 loop-again c =
-    let head = c .before .before .before .before in
-    (omega arith, rw add-one
-    (ap (applyAll plainSum (drop (suc (head .loop .n)) quads)) (c .apply-g .ensures)
-    ∙ sym (applyAll-step plainSum quads (0, 0, 0, 0) (head .loop .n) (head .loop .s) (omega arith))
-    ∙ head .loop .inv .1))
+    let head = c .before .before .before .before in (
+      omega arith,
+      rw add-one
+          (ap (applyAll plainSum (drop (suc (head .loop .n)) quads)) (c .apply-g .ensures)
+          ∙ sym (applyAll-step plainSum quads (0, 0, 0, 0) (head .loop .n) (head .loop .s) (omega arith))
+          ∙ head .loop .inv .1),
+    )
 
 returns : tie.Need-returns Inv-loop μ-loop
 unfolding quads applyAll

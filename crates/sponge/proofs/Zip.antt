@@ -1,0 +1,103 @@
+-- Laws of a function applied place by place: lengths, elements, one place more, and undoing. Assumes nothing.
+use mathlib.Core.Path.{_≡_, refl, sym, ap, ap₂, _∙_}
+use Prim.Native.Nat.{ℕ, zero, suc, _+_, _≤_, _<_, zero-le, suc-le-suc}
+use native.Mathlib.Nat.{not-suc-le-zero, le-of-suc-le-suc, suc-inj}
+use native.Mathlib.Omega.{arith}
+use mathlib.Core.List.{List, [], _∷_}
+use lib.ListN.{length, getD, take, set}
+use lib.Seq.{take-all}
+use Rattle.sponge.specs.Word.{plainSum, zipInto, tabulate}
+use Rattle.sponge.specs.Sponge.{cellSum}
+
+module _ (f : ℕ → ℕ → ℕ) where
+  pub zip-none : (xs : List ℕ) → zipInto f xs [] ≡ xs
+  unfolding zipInto
+  zip-none [] = refl
+  zip-none (x ∷ xs) = refl
+
+  pub length-zip : (xs ys : List ℕ) → length (zipInto f xs ys) ≡ length xs
+  unfolding zipInto
+  length-zip [] ys = refl
+  length-zip (x ∷ xs) [] = refl
+  length-zip (x ∷ xs) (y ∷ ys) = ap suc (length-zip xs ys)
+
+  pub getD-zip : (xs ys : List ℕ) (j : ℕ) → j < length xs → j < length ys → getD (zipInto f xs ys) j 0 ≡ f (getD xs j 0) (getD ys j 0)
+  unfolding zipInto
+  getD-zip [] ys j hx hy = absurd (not-suc-le-zero hx)
+  getD-zip (x ∷ xs) [] j hx hy = absurd (not-suc-le-zero hy)
+  getD-zip (x ∷ xs) (y ∷ ys) zero hx hy = refl
+  getD-zip (x ∷ xs) (y ∷ ys) (suc j) hx hy = getD-zip xs ys j (le-of-suc-le-suc hx) (le-of-suc-le-suc hy)
+
+  -- one place more, as a loop that stores in place makes it
+  zip-more : (xs ys : List ℕ) (j : ℕ) → j < length ys
+      → set (zipInto f xs (take j ys)) j (f (getD (zipInto f xs (take j ys)) j 0) (getD ys j 0)) ≡ zipInto f xs (take (suc j) ys)
+  unfolding zipInto
+  zip-more [] ys j h = refl
+  zip-more (x ∷ xs) [] j h = absurd (not-suc-le-zero h)
+  zip-more (x ∷ xs) (y ∷ ys) zero h = ap (λ (l : List ℕ). f x y ∷ l) (sym (zip-none xs))
+  zip-more (x ∷ xs) (y ∷ ys) (suc j) h = ap (λ (l : List ℕ). f x y ∷ l) (zip-more xs ys j (le-of-suc-le-suc h))
+
+  -- the two steps of a loop over n places: one place more, and the end
+  module _ (xs ys s : List ℕ) (j n : ℕ) (l : length ys ≡ n) (inv : s ≡ zipInto f xs (take j ys)) where
+    pub zip-again : (v : ℕ) → j < n → v ≡ getD ys j 0 → set s j (f (getD s j 0) v) ≡ zipInto f xs (take (suc j) ys)
+    zip-again v h e =
+        ap₂ (λ (t : List ℕ) (w : ℕ). set t j (f (getD t j 0) w)) inv e ∙ zip-more xs ys j (omega arith)
+
+    pub zip-end : n ≤ j → s ≡ zipInto f xs ys
+    zip-end h = inv ∙ ap (zipInto f xs) (take-all j ys (omega arith))
+
+  -- what g undoes place by place, it undoes on lists
+  pub zip-undo : (g : ℕ → ℕ → ℕ) → ((x y : ℕ) → g (f x y) y ≡ x) → (xs ys : List ℕ) → zipInto g (zipInto f xs ys) ys ≡ xs
+  unfolding zipInto
+  zip-undo g e [] ys = refl
+  zip-undo g e (x ∷ xs) [] = refl
+  zip-undo g e (x ∷ xs) (y ∷ ys) = ap₂ (λ (h : ℕ) (t : List ℕ). h ∷ t) (e x y) (zip-undo g e xs ys)
+
+  -- where f is injective in its second operand, the second list can be told from the result
+  pub zip-inj : ((x y z : ℕ) → f x y ≡ f x z → y ≡ z) → (xs ys zs : List ℕ) → length ys ≤ length xs → length ys ≡ length zs
+      → zipInto f xs ys ≡ zipInto f xs zs → ys ≡ zs
+  unfolding zipInto
+  zip-inj inj xs [] [] h e p = refl
+  zip-inj inj xs [] (z ∷ zs) h e p = absurd (omega arith)
+  zip-inj inj xs (y ∷ ys) [] h e p = absurd (omega arith)
+  zip-inj inj [] (y ∷ ys) (z ∷ zs) h e p = absurd (not-suc-le-zero h)
+  zip-inj inj (x ∷ xs) (y ∷ ys) (z ∷ zs) h e p =
+      let here : f x y ≡ f x z = cc in
+      let there : zipInto f xs ys ≡ zipInto f xs zs = cc in
+      ap₂ (λ (a : ℕ) (l : List ℕ). a ∷ l) (inj x y z here)
+      (zip-inj inj xs ys zs (le-of-suc-le-suc h) (suc-inj e) there)
+
+pub length-tabulate : (n : ℕ) (f : ℕ → ℕ) → length (tabulate n f) ≡ n
+unfolding tabulate
+length-tabulate zero f = refl
+length-tabulate (suc n) f = ap suc (length-tabulate n (λ i. f (suc i)))
+
+pub getD-tabulate : (n : ℕ) (f : ℕ → ℕ) (j : ℕ) → j < n → getD (tabulate n f) j 0 ≡ f j
+unfolding tabulate
+getD-tabulate zero f j h = absurd (not-suc-le-zero h)
+getD-tabulate (suc n) f zero h = refl
+getD-tabulate (suc n) f (suc j) h = getD-tabulate n (λ i. f (suc i)) j (le-of-suc-le-suc h)
+
+-- ---- sums of cells, n words each
+
+pub sum2-at : (n : ℕ) (a b : List ℕ) → length a ≡ n → length b ≡ n → (j : ℕ) → j < n → plainSum (getD a j 0) (getD b j 0) ≡ getD (cellSum a b) j 0
+unfolding cellSum
+sum2-at n a b la lb j h = sym (getD-zip plainSum a b j (omega arith) (omega arith))
+
+pub length-sum2 : (n : ℕ) (a b : List ℕ) → length a ≡ n → length (cellSum a b) ≡ n
+unfolding cellSum
+length-sum2 n a b la = length-zip plainSum a b ∙ la
+
+module _ (n : ℕ) (a b c : List ℕ) (la : length a ≡ n) (lb : length b ≡ n) (lc : length c ≡ n) where
+  pub sum3-at : (j : ℕ) → j < n → plainSum (plainSum (getD a j 0) (getD b j 0)) (getD c j 0) ≡ getD (cellSum (cellSum a b) c) j 0
+  sum3-at j h =
+      ap (λ (x : ℕ). plainSum x (getD c j 0)) (sum2-at n a b la lb j h)
+      ∙ sum2-at n (cellSum a b) c (length-sum2 n a b la) lc j h
+
+  pub length-sum3 : length (cellSum (cellSum a b) c) ≡ n
+  length-sum3 = length-sum2 n (cellSum a b) c (length-sum2 n a b la)
+
+  pub sum4-at : (d : List ℕ) → length d ≡ n → (j : ℕ) → j < n → plainSum (plainSum (plainSum (getD a j 0) (getD b j 0)) (getD c j 0)) (getD d j 0) ≡ getD (cellSum (cellSum (cellSum a b) c) d) j 0
+  sum4-at d ld j h =
+      ap (λ (x : ℕ). plainSum x (getD d j 0)) (sum3-at j h)
+      ∙ sum2-at n (cellSum (cellSum a b) c) d length-sum3 ld j h

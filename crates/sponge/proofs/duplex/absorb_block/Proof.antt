@@ -1,0 +1,24 @@
+use borrow.Author.Needs.{needs}
+use Rattle.sponge.specs.Sponge.{absorb}
+use Rattle.sponge.proofs.duplex.absorb_block.Statement.{statement}
+use Rattle.sponge.proofs.duplex.absorb_block.Tie as tie
+use Rattle.sponge.proofs.duplex.absorb_block.Reads as reads
+use Rattle.sponge.proofs.duplex.absorb_block.Lts as lts
+use Rattle.sponge.proofs.duplex.full_call.Reads as full-call-reads
+use Rattle.sponge.proofs.duplex.xor_words.Reads as xor-words-reads
+
+-- src/duplex.rt:39:5
+xor-words-requires : tie.Need-xor-words-requires
+xor-words-requires c κs = search needs
+
+-- src/duplex.rt:40:5
+full-call-requires : tie.Need-full-call-requires
+full-call-requires c κs = search needs
+
+-- src/duplex.rt:36:1
+returns : tie.Need-returns
+unfolding absorb
+returns c = cc
+
+pub absorb-block-spec : {M : Type 1} → statement M
+absorb-block-spec = tie.close (tie.spec xor-words-requires full-call-requires returns)
