@@ -1,12 +1,15 @@
 -- Laws of a function applied place by place: lengths, elements, one place more, and undoing. Assumes nothing.
 use mathlib.Core.Path.{_≡_, refl, sym, ap, ap₂, _∙_}
-use Prim.Native.Nat.{ℕ, zero, suc, _+_, _≤_, _<_, zero-le, suc-le-suc}
+use Prim.Native.Nat.{ℕ, zero, suc, _≤_, _<_, _^_}
 use native.Mathlib.Nat.{not-suc-le-zero, le-of-suc-le-suc, suc-inj}
 use native.Mathlib.Omega.{arith}
 use mathlib.Core.List.{List, [], _∷_}
 use lib.ListN.{length, getD, take, set}
 use lib.Seq.{take-all}
-use Rattle.sponge.specs.Word.{plainSum, zipInto, tabulate}
+use lib.Bits.{bitXor, xor-lt}
+use Rattle.permutation.specs.Word.{plainSum}
+use Rattle.permutation.proofs.State.{AllWords, cons-words}
+use Rattle.sponge.specs.Lists.{zipInto, xorInto, tabulate}
 use Rattle.sponge.specs.Sponge.{cellSum}
 
 module _ (f : ℕ → ℕ → ℕ) where
@@ -77,6 +80,20 @@ unfolding tabulate
 getD-tabulate zero f j h = absurd (not-suc-le-zero h)
 getD-tabulate (suc n) f zero h = refl
 getD-tabulate (suc n) f (suc j) h = getD-tabulate n (λ i. f (suc i)) j (le-of-suc-le-suc h)
+
+-- ---- words in, words out
+
+pub zip-words : (f : ℕ → ℕ → ℕ) → ((a b : ℕ) → a < 2 ^ 64 → b < 2 ^ 64 → f a b < 2 ^ 64)
+    → (xs ys : List ℕ) → AllWords xs → AllWords ys → AllWords (zipInto f xs ys)
+unfolding zipInto
+zip-words f hf [] ys hx hy = hx
+zip-words f hf (x ∷ xs) [] hx hy = hx
+zip-words f hf (x ∷ xs) (y ∷ ys) hx hy =
+    cons-words (f x y) (zipInto f xs ys) (hf x y (hx zero) (hy zero))
+    (zip-words f hf xs ys (λ i. hx (suc i)) (λ i. hy (suc i)))
+
+pub xor-words : (xs ys : List ℕ) → AllWords xs → AllWords ys → AllWords (xorInto xs ys)
+xor-words = zip-words bitXor (xor-lt 64)
 
 -- ---- sums of cells, n words each
 

@@ -1,6 +1,4 @@
--- The sponge, in document 01's order: words, then G, the round and its rounds, then the fixed numbers, and last absorbing and duplexing.
-pub mod Word
-pub mod Round
+-- The sponge over the permutation: lists of words, the fixed numbers, absorbing and duplexing.
+pub mod Lists
 pub mod Profile
 pub mod Sponge
-pub mod Inverse

@@ -1,11 +1,12 @@
 // Calls of the permutation, absorbing, duplexing and the output.
-use crate::permutation::rounds;
 use crate::profile::Profile;
+use permutation::rounds;
 ghost use mathlib.Core.Path.{_≡_};
 ghost use Prim.Native.Nat.{_≤_};
 ghost use lib.ListN.{length};
-ghost use Rattle.sponge.specs.Word.{plainSum, xorInto};
-ghost use Rattle.sponge.specs.Round.{rounds};
+ghost use Rattle.permutation.specs.Word.{plainSum};
+ghost use Rattle.permutation.specs.Round.{rounds};
+ghost use Rattle.sponge.specs.Lists.{xorInto};
 ghost use Rattle.sponge.specs.Profile.{fullRounds, reducedRounds};
 ghost use Rattle.sponge.specs.Sponge.{absorb, rand, cellSum};
 

@@ -5,7 +5,7 @@ use native.Mathlib.Omega.{arith}
 use native.Mathlib.Numerals.{add-one}
 use lib.ListN.{take}
 use lib.Bits.{bitXor}
-use Rattle.sponge.specs.Word.{xorInto}
+use Rattle.sponge.specs.Lists.{xorInto}
 use Rattle.sponge.specs.Sponge.{cellSum}
 use Rattle.sponge.proofs.Zip.{zip-none, zip-again, zip-end, sum4-at, length-sum2, length-sum3}
 use Rattle.sponge.proofs.duplex.xor_sum4.Statement.{statement}
@@ -71,10 +71,12 @@ loop-less c = omega arith
 loop-again : tie.Need-loop-again Inv-loop μ-loop
 loop-again c =
     let head = c .before .before .before .before .before .before .before in
-    let pre = c .before .before .before .before .before .before .before .before .before .before .before .before .pre in
-    (omega arith, rw add-one
-    (zip-again bitXor _ _ _ _ 12 (length-sum2 12 _ _ (length-sum3 12 _ _ _ (pre .0) (pre .1) (pre .2))) (head .loop .inv .1) _ (omega arith)
-    (c .sum4 .ensures ∙ sum4-at 12 _ _ _ (pre .0) (pre .1) (pre .2) _ (pre .3) _ (omega arith))))
+    let pre = c .before .before .before .before .before .before .before .before .before .before .before .before .pre in (
+      omega arith,
+      rw add-one
+          (zip-again bitXor _ _ _ _ 12 (length-sum2 12 _ _ (length-sum3 12 _ _ _ (pre .0) (pre .1) (pre .2))) (head .loop .inv .1) _ (omega arith)
+          (c .sum4 .ensures ∙ sum4-at 12 _ _ _ (pre .0) (pre .1) (pre .2) _ (pre .3) _ (omega arith))),
+    )
 
 returns : tie.Need-returns Inv-loop μ-loop
 returns c =

@@ -5,7 +5,7 @@ use native.Mathlib.Omega.{arith}
 use native.Mathlib.Numerals.{add-one}
 use lib.ListN.{length, take}
 use lib.Bits.{bitXor}
-use Rattle.sponge.specs.Word.{xorInto}
+use Rattle.sponge.specs.Lists.{xorInto}
 use Rattle.sponge.proofs.Zip.{zip-none, zip-again, zip-end}
 use Rattle.sponge.proofs.duplex.xor_words.Statement.{statement}
 use Rattle.sponge.proofs.duplex.xor_words.Tie as tie

@@ -1,8 +1,8 @@
-// G, the round and n rounds.
+// The permutation: BLAKE2b's G, round and n rounds, without message words.
 ghost use mathlib.Core.Path.{_≡_};
 ghost use Prim.Native.Nat.{_<_};
-ghost use Rattle.sponge.specs.Word.{turnRight, plainSum};
-ghost use Rattle.sponge.specs.Round.{halfG, G, applyG, round, rounds};
+ghost use Rattle.permutation.specs.Word.{turnRight, plainSum};
+ghost use Rattle.permutation.specs.Round.{halfG, G, applyG, round, rounds};
 
 // The four words that G works on.
 pub struct Words {

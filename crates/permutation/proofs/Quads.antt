@@ -7,8 +7,8 @@ use native.Mathlib.Nat.{not-suc-le-zero, le-of-suc-le-suc}
 use mathlib.Core.List.{List, [], _∷_}
 use lib.ListN.{length, getD, drop}
 use lib.Seq.{drop-cons}
-use Rattle.sponge.specs.declared.permutation.Quad.{Quad}
-use Rattle.sponge.specs.Round.{quads, applyG, applyAll}
+use Rattle.permutation.specs.declared.Quad.{Quad}
+use Rattle.permutation.specs.Round.{quads, applyG, applyAll}
 
 pub record Spread (q : Quad) : Type 0 where
   pub in0 : q .0 < 16

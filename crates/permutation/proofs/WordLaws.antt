@@ -7,7 +7,8 @@ use native.Mathlib.Omega.{arith}
 use lib.Arith.{bin-ind, digits-lt, digits-div, digits-mod}
 use lib.Pow.{pow-pos, pow-add, mod-pow-add, shl-shr, shr-lt, high, low, split}
 use lib.Bits.{bitXor, bitOr, differ, xor-step, xor-zero-r, xor-self, xor-lt, or-shifted-r}
-use Rattle.sponge.specs.Word.{turnRight, plainSum}
+use Rattle.permutation.specs.Word.{turnRight, plainSum}
+use Rattle.permutation.specs.Inverse.{Addition, plainBack}
 
 -- ---- XOR
 
@@ -102,5 +103,11 @@ turn-undo n k both x h =
 
 -- ---- the plain sum
 
-pub sum-word : (a b : ℕ) → plainSum a b < 2 ^ 64
-sum-word a b = omega arith
+pub plain : Addition
+plain = record {
+  sum = plainSum;
+  back = plainBack;
+  sum-word = λ a b ha hb. omega arith;
+  back-word = λ a b ha hb. omega arith;
+  sum-back = λ a b ha hb. omega arith;
+}

@@ -1,12 +1,12 @@
 -- The inverses of G, of the round and of n rounds. An addition comes with the difference that undoes it.
 use mathlib.Core.Path.{_≡_}
-use Prim.Native.Nat.{ℕ, zero, suc, _-_, _^_, _<_}
+use Prim.Native.Nat.{ℕ, zero, suc, _+_, _-_, _%_, _^_, _<_}
 use mathlib.Core.List.{List, [], _∷_}
 use lib.Bits.{bitXor}
-use Rattle.sponge.specs.Word.{turnRight, xorInto}
-use Rattle.sponge.specs.declared.permutation.Words.{Words}
-use Rattle.sponge.specs.declared.permutation.Quad.{Quad}
-use Rattle.sponge.specs.Round.{wordsAt, putWords, quads}
+use Rattle.permutation.specs.Word.{turnRight}
+use Rattle.permutation.specs.declared.Words.{Words}
+use Rattle.permutation.specs.declared.Quad.{Quad}
+use Rattle.permutation.specs.Round.{wordsAt, putWords, quads}
 
 -- an addition of words that can be undone where its second operand is known
 pub record Addition : Type 0 where
@@ -15,6 +15,10 @@ pub record Addition : Type 0 where
   pub sum-word : (a b : ℕ) → a < 2 ^ 64 → b < 2 ^ 64 → sum a b < 2 ^ 64
   pub back-word : (a b : ℕ) → a < 2 ^ 64 → b < 2 ^ 64 → back a b < 2 ^ 64
   pub sum-back : (a b : ℕ) → a < 2 ^ 64 → b < 2 ^ 64 → back (sum a b) b ≡ a
+
+-- the difference that undoes plainSum
+abbrev pub plainBack : ℕ → ℕ → ℕ
+plainBack a b = (a + (2 ^ 64 - b)) % 2 ^ 64
 
 -- halfG undone, its last step first
 unfoldable pub unHalfG : (ℕ → ℕ → ℕ) → ℕ → ℕ → Words → Words
@@ -42,7 +46,3 @@ unround back s = unapplyAll back quads s
 unfoldable pub unrounds : (ℕ → ℕ → ℕ) → ℕ → List ℕ → List ℕ
 unrounds back zero s = s
 unrounds back (suc n) s = unrounds back n (unround back s)
-
--- the state before words were absorbed with a call of n rounds
-unfoldable pub unabsorb : (ℕ → ℕ → ℕ) → ℕ → List ℕ → List ℕ → List ℕ
-unabsorb back n words s = xorInto (unrounds back n s) words

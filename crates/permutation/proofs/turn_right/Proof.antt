@@ -1,10 +1,10 @@
 use borrow.Author.Needs.{needs}
-use Rattle.sponge.proofs.Words.{turn-shifts}
+use Rattle.permutation.proofs.WordLaws.{turn-shifts}
 use native.Mathlib.Omega.{arith}
-use Rattle.sponge.proofs.permutation.turn_right.Statement.{statement}
-use Rattle.sponge.proofs.permutation.turn_right.Tie as tie
-use Rattle.sponge.proofs.permutation.turn_right.Reads as reads
-use Rattle.sponge.proofs.permutation.turn_right.Lts as lts
+use Rattle.permutation.proofs.turn_right.Statement.{statement}
+use Rattle.permutation.proofs.turn_right.Tie as tie
+use Rattle.permutation.proofs.turn_right.Reads as reads
+use Rattle.permutation.proofs.turn_right.Lts as lts
 
 -- src/permutation.rt:34:6
 shr-result : tie.Need-shr-result

@@ -3,9 +3,9 @@ use Prim.Native.Nat.{ℕ, zero, suc}
 use mathlib.Core.List.{List, [], _∷_}
 use lib.Bits.{bitXor}
 use lib.ListN.{getD, set}
-use Rattle.sponge.specs.Word.{turnRight}
-use Rattle.sponge.specs.declared.permutation.Words.{Words}
-use Rattle.sponge.specs.declared.permutation.Quad.{Quad}
+use Rattle.permutation.specs.Word.{turnRight}
+use Rattle.permutation.specs.declared.Words.{Words}
+use Rattle.permutation.specs.declared.Quad.{Quad}
 
 -- half of G, with the distances of its two turns
 unfoldable pub halfG : (ℕ → ℕ → ℕ) → ℕ → ℕ → Words → Words

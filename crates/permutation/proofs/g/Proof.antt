@@ -1,10 +1,10 @@
 use borrow.Author.Needs.{needs}
-use Rattle.sponge.specs.Round.{G}
-use Rattle.sponge.proofs.permutation.g.Statement.{statement}
-use Rattle.sponge.proofs.permutation.g.Tie as tie
-use Rattle.sponge.proofs.permutation.g.Reads as reads
-use Rattle.sponge.proofs.permutation.g.Lts as lts
-use Rattle.sponge.proofs.permutation.half_g.Reads as half-g-reads
+use Rattle.permutation.specs.Round.{G}
+use Rattle.permutation.proofs.g.Statement.{statement}
+use Rattle.permutation.proofs.g.Tie as tie
+use Rattle.permutation.proofs.g.Reads as reads
+use Rattle.permutation.proofs.g.Lts as lts
+use Rattle.permutation.proofs.half_g.Reads as half-g-reads
 
 -- src/permutation.rt:51:12
 half-g-requires : tie.Need-half-g-requires

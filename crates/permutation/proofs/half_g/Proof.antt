@@ -1,10 +1,10 @@
 use borrow.Author.Needs.{needs}
-use Rattle.sponge.specs.Round.{halfG}
-use Rattle.sponge.proofs.permutation.half_g.Statement.{statement}
-use Rattle.sponge.proofs.permutation.half_g.Tie as tie
-use Rattle.sponge.proofs.permutation.half_g.Reads as reads
-use Rattle.sponge.proofs.permutation.half_g.Lts as lts
-use Rattle.sponge.proofs.permutation.turn_right.Reads as turn-right-reads
+use Rattle.permutation.specs.Round.{halfG}
+use Rattle.permutation.proofs.half_g.Statement.{statement}
+use Rattle.permutation.proofs.half_g.Tie as tie
+use Rattle.permutation.proofs.half_g.Reads as reads
+use Rattle.permutation.proofs.half_g.Lts as lts
+use Rattle.permutation.proofs.turn_right.Reads as turn-right-reads
 use Rattle.std.proofs.num.wrapping_add_u64.Reads as wrapping-add-u64-reads
 
 -- src/permutation.rt:41:9

@@ -1,10 +1,10 @@
 use borrow.Author.Needs.{needs}
-use Rattle.sponge.specs.Round.{applyG, putWords, wordsAt}
-use Rattle.sponge.proofs.permutation.apply_g.Statement.{statement}
-use Rattle.sponge.proofs.permutation.apply_g.Tie as tie
-use Rattle.sponge.proofs.permutation.apply_g.Reads as reads
-use Rattle.sponge.proofs.permutation.apply_g.Lts as lts
-use Rattle.sponge.proofs.permutation.g.Reads as g-reads
+use Rattle.permutation.specs.Round.{applyG, putWords, wordsAt}
+use Rattle.permutation.proofs.apply_g.Statement.{statement}
+use Rattle.permutation.proofs.apply_g.Tie as tie
+use Rattle.permutation.proofs.apply_g.Reads as reads
+use Rattle.permutation.proofs.apply_g.Lts as lts
+use Rattle.permutation.proofs.g.Reads as g-reads
 
 -- src/permutation.rt:64:12
 mul-t8 : tie.Need-mul-t8

@@ -1,15 +1,7 @@
--- Words of 64 bits, held as numbers, and lists of words.
-use Prim.Native.Nat.{ℕ, zero, suc, _+_, _-_, _*_, _/_, _%_, _^_}
+-- Lists of words, place by place.
+use Prim.Native.Nat.{ℕ, zero, suc}
 use mathlib.Core.List.{List, [], _∷_}
 use lib.Bits.{bitXor}
-
--- the sum of two words, its carry out of bit 63 dropped
-abbrev pub plainSum : ℕ → ℕ → ℕ
-plainSum a b = (a + b) % 2 ^ 64
-
--- a word turned right by n bits: its n low bits become its high ones
-unfoldable pub turnRight : ℕ → ℕ → ℕ
-turnRight n x = x % 2 ^ n * 2 ^ (64 - n) + x / 2 ^ n
 
 -- f place by place; the first list keeps what it has beyond the second
 unfoldable pub zipInto : (ℕ → ℕ → ℕ) → List ℕ → List ℕ → List ℕ

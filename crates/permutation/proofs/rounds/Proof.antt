@@ -3,13 +3,13 @@ use mathlib.Core.Path.{_≡_, refl}
 use Prim.Native.Nat.{_≤_, _-_}
 use native.Mathlib.Omega.{arith}
 use native.Mathlib.Numerals.{add-one}
-use Rattle.sponge.specs.Word.{plainSum}
-use Rattle.sponge.specs.Round.{rounds}
-use Rattle.sponge.proofs.permutation.rounds.Statement.{statement}
-use Rattle.sponge.proofs.permutation.rounds.Tie as tie
-use Rattle.sponge.proofs.permutation.rounds.Reads as reads
-use Rattle.sponge.proofs.permutation.rounds.Lts as lts
-use Rattle.sponge.proofs.permutation.round.Reads as round-reads
+use Rattle.permutation.specs.Word.{plainSum}
+use Rattle.permutation.specs.Round.{rounds}
+use Rattle.permutation.proofs.rounds.Statement.{statement}
+use Rattle.permutation.proofs.rounds.Tie as tie
+use Rattle.permutation.proofs.rounds.Reads as reads
+use Rattle.permutation.proofs.rounds.Lts as lts
+use Rattle.permutation.proofs.round.Reads as round-reads
 
 abbrev Inv-loop : tie.InvT-loop
 Inv-loop s₀ n k₀ s k = (k ≤ n) × (s ≡ rounds plainSum k s₀)

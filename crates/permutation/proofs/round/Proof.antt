@@ -5,14 +5,14 @@ use Prim.Native.Nat.{suc, _≤_, _-_}
 use native.Mathlib.Omega.{arith}
 use native.Mathlib.Numerals.{add-one}
 use lib.ListN.{drop}
-use Rattle.sponge.specs.Word.{plainSum}
-use Rattle.sponge.specs.Round.{quads, round, applyAll}
-use Rattle.sponge.proofs.Quads.{quad-spread, applyAll-step}
-use Rattle.sponge.proofs.permutation.round.Statement.{statement}
-use Rattle.sponge.proofs.permutation.round.Tie as tie
-use Rattle.sponge.proofs.permutation.round.Reads as reads
-use Rattle.sponge.proofs.permutation.round.Lts as lts
-use Rattle.sponge.proofs.permutation.apply_g.Reads as apply-g-reads
+use Rattle.permutation.specs.Word.{plainSum}
+use Rattle.permutation.specs.Round.{quads, round, applyAll}
+use Rattle.permutation.proofs.Quads.{quad-spread, applyAll-step}
+use Rattle.permutation.proofs.round.Statement.{statement}
+use Rattle.permutation.proofs.round.Tie as tie
+use Rattle.permutation.proofs.round.Reads as reads
+use Rattle.permutation.proofs.round.Lts as lts
+use Rattle.permutation.proofs.apply_g.Reads as apply-g-reads
 
 abbrev Inv-loop : tie.InvT-loop
 Inv-loop s₀ table n₀ s n = (n ≤ 8) × (applyAll plainSum (drop n quads) s ≡ round plainSum s₀)

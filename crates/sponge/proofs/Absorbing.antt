@@ -1,0 +1,46 @@
+-- Absorbing and duplexing keep states, are undone where the absorbed words are known, and tell the absorbed words where the
+-- state before them is known. Assumes nothing.
+use mathlib.Core.Path.{_≡_, refl, sym, ap, _∙_}
+use Prim.Native.Nat.{ℕ, _≤_}
+use native.Mathlib.Omega.{arith}
+use mathlib.Core.List.{List}
+use lib.ListN.{length}
+use lib.Bits.{bitXor}
+use Rattle.permutation.specs.Inverse.{Addition, unrounds}
+use Rattle.permutation.proofs.WordLaws.{xor-undo, xor-undo-left}
+use Rattle.permutation.proofs.State.{AllWords, IsState, EachWord, each-words}
+use Rattle.permutation.proofs.Undo.{rounds-state, rounds-undo}
+use Rattle.sponge.specs.Lists.{xorInto}
+use Rattle.sponge.specs.Profile.{start, startingWords}
+use Rattle.sponge.specs.Sponge.{absorb, unabsorb}
+use Rattle.sponge.proofs.Zip.{length-zip, zip-undo, zip-inj, xor-words}
+
+pub start-state : IsState start
+unfolding start startingWords
+start-state = record { len = refl; word = each-words start (omega arith) }
+
+xor-state : {s : List ℕ} (words : List ℕ) → AllWords words → IsState s → IsState (xorInto s words)
+xor-state {s} words hw hs =
+    record { len = length-zip bitXor s words ∙ hs .len; word = xor-words s words (hs .word) hw }
+
+xor-inj : (x y z : ℕ) → bitXor x y ≡ bitXor x z → y ≡ z
+xor-inj x y z e = sym (xor-undo-left x y) ∙ ap (bitXor x) e ∙ xor-undo-left x z
+
+module _ (A : Addition) (n : ℕ) where
+  pub absorb-state : {s : List ℕ} (words : List ℕ) → AllWords words → IsState s → IsState (absorb (A .sum) n words s)
+  unfolding absorb
+  absorb-state words hw hs = rounds-state A n (xor-state words hw hs)
+
+  pub absorb-undo : (words s : List ℕ) → AllWords words → IsState s → unabsorb (A .back) n words (absorb (A .sum) n words s) ≡ s
+  unfolding absorb unabsorb
+  absorb-undo words s hw hs =
+      ap (λ (t : List ℕ). xorInto t words) (rounds-undo A n (xorInto s words) (xor-state words hw hs))
+      ∙ zip-undo bitXor bitXor xor-undo s words
+
+  pub absorbed-words : (s vs ws : List ℕ) → AllWords vs → AllWords ws → IsState s → length vs ≤ 16 → length vs ≡ length ws
+      → absorb (A .sum) n vs s ≡ absorb (A .sum) n ws s → vs ≡ ws
+  unfolding absorb
+  absorbed-words s vs ws hv hw hs l e p =
+      zip-inj bitXor xor-inj s vs ws (omega (arith, hs .len)) e
+      (sym (rounds-undo A n (xorInto s vs) (xor-state vs hv hs))
+      ∙ ap (unrounds (A .back) n) p ∙ rounds-undo A n (xorInto s ws) (xor-state ws hw hs))
