@@ -5,10 +5,10 @@ use native.Mathlib.Nat.{not-suc-le-zero, le-of-suc-le-suc, pow-suc, lt-of-lt-of-
 use native.Mathlib.Omega.{arith}
 use mathlib.Core.List.{List, [], _∷_}
 use lib.ListN.{length, getD, take, drop, length-take, length-drop, drop-of-length-le}
-use lib.Seq.{getD-take, getD-drop, drop-cons}
+use lib.Seq.{getD-take, getD-drop, drop-cons, drop-drop}
 use lib.Pow.{pow-add, pow-mono, shr-shr}
 use lib.Arith.{digits-lt, digits-div, digits-mod}
-use Rattle.little_endian.specs.Bytes.{leValue, leBytes}
+use Rattle.little_endian.specs.Bytes.{leValue, leBytes, leWords}
 
 -- every element is a byte
 abbrev pub AllBytes : List ℕ → Type 0
@@ -74,3 +74,25 @@ module _ (bytes : List ℕ) (at : ℕ) where
       rw (← e, drop-cons (take 8 (drop at bytes)) k 0 inside)
       (ap (λ (x : ℕ). leValue (drop (suc k) (take 8 (drop at bytes))) * 256 + x)
       (getD-take 8 (drop at bytes) k 0 (omega arith) ∙ getD-drop at bytes k 0))
+
+pub length-words : (n : ℕ) (bytes : List ℕ) → length (leWords n bytes) ≡ n
+unfolding leWords
+length-words zero bytes = refl
+length-words (suc n) bytes = ap suc (length-words n (drop 8 bytes))
+
+pub getD-words : (n : ℕ) (bytes : List ℕ) (i : ℕ) → i < n → getD (leWords n bytes) i 0 ≡ leValue (take 8 (drop (8 * i) bytes))
+unfolding leWords
+getD-words zero bytes i h = absurd (not-suc-le-zero h)
+getD-words (suc n) bytes zero h = refl
+getD-words (suc n) bytes (suc i) h =
+    let next : 8 + 8 * i ≡ 8 * suc i = omega arith in
+    getD-words n (drop 8 bytes) i (le-of-suc-le-suc h)
+    ∙ ap (λ (l : List ℕ). leValue (take 8 l)) (drop-drop (8 * i) 8 bytes ∙ ap (λ (k : ℕ). drop k bytes) next)
+
+-- words below 2^64
+pub words-fit : (n : ℕ) (bytes : List ℕ) → AllBytes bytes → (i : ℕ) → getD (leWords n bytes) i 0 < 2 ^ 64
+unfolding leWords
+words-fit zero bytes h i = omega arith
+words-fit (suc n) bytes h zero =
+    lt-of-lt-of-le (value-lt (take 8 bytes) (take-bytes 8 bytes h)) (pow-mono {j = 64} (simp length-take (omega arith)))
+words-fit (suc n) bytes h (suc i) = words-fit n (drop 8 bytes) (drop-bytes 8 bytes h) i

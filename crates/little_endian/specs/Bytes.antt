@@ -1,6 +1,7 @@
 -- Numbers stored as bytes, the lowest byte first.
 use Prim.Native.Nat.{ℕ, zero, suc, _+_, _*_, _/_, _%_}
 use mathlib.Core.List.{List, [], _∷_}
+use lib.ListN.{take, drop}
 
 -- the number that bytes stand for
 unfoldable pub leValue : List ℕ → ℕ
@@ -11,3 +12,8 @@ leValue (b ∷ bs) = leValue bs * 256 + b
 unfoldable pub leBytes : ℕ → ℕ → List ℕ
 leBytes zero x = []
 leBytes (suc n) x = x % 256 ∷ leBytes n (x / 256)
+
+-- the first n words of a list of bytes
+unfoldable pub leWords : ℕ → List ℕ → List ℕ
+leWords zero bytes = []
+leWords (suc n) bytes = leValue (take 8 bytes) ∷ leWords n (drop 8 bytes)

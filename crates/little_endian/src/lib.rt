@@ -1,8 +1,8 @@
 // Words as bytes, the lowest byte first.
 ghost use mathlib.Core.Path.{_≡_};
-ghost use Prim.Native.Nat.{_+_, _≤_, _<_};
+ghost use Prim.Native.Nat.{_+_, _*_, _≤_, _<_};
 ghost use lib.ListN.{length, take, drop, getD};
-ghost use Rattle.little_endian.specs.Bytes.{leValue, leBytes};
+ghost use Rattle.little_endian.specs.Bytes.{leValue, leBytes, leWords};
 
 fn widened(b: u8) -> u64
     ensures { λ r. ⌜ r ≡ b ⌝ }
@@ -22,6 +22,18 @@ pub fn load_word(bytes: &[u8], at: usize) -> u64
         v = v * 256 + widened(bytes[at + i]);
     }
     v
+}
+
+// Fills words from the start of bytes.
+pub fn load_words(bytes: &[u8], words: &mut [u64])
+    requires { ⌜ 8 * length (now words) ≤ length (now bytes) ⌝ }
+    ensures { λ _. ⌜ now (words .exit) ≡ leWords (length (now (words .entry))) (now (bytes .entry)) ⌝ }
+{
+    let mut i = 0;
+    while i < words.len() {
+        words[i] = load_word(bytes, 8 * i);
+        i += 1;
+    }
 }
 
 // Byte k of a word.

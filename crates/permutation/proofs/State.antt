@@ -1,38 +1,13 @@
--- States: sixteen words, each below 2^64. Laws of lists of words. Assumes nothing.
-use mathlib.Core.Path.{_≡_, refl, _∙_}
-use Prim.Native.Nat.{ℕ, zero, suc, _^_, _<_}
-use native.Mathlib.Omega.{arith}
-use mathlib.Core.List.{List, [], _∷_}
-use lib.ListN.{length, getD, set, length-set}
-
--- every element is a word; past its end a list reads as 0, which is one
-abbrev pub AllWords : List ℕ → Type 0
-AllWords s = (i : ℕ) → getD s i 0 < 2 ^ 64
+-- States: sixteen words, each below 2^64. Assumes nothing.
+use mathlib.Core.Path.{_≡_, _∙_}
+use Prim.Native.Nat.{ℕ, _^_, _<_}
+use mathlib.Core.List.{List}
+use lib.ListN.{length, set, length-set}
+use Rattle.lists.proofs.Words.{AllWords, set-words}
 
 pub record IsState (s : List ℕ) : Type 0 where
   pub len : length s ≡ 16
   pub word : AllWords s
-
-none-words : AllWords []
-none-words i = omega arith
-
-pub cons-words : (x : ℕ) (s : List ℕ) → x < 2 ^ 64 → AllWords s → AllWords (x ∷ s)
-cons-words x s hx hs zero = hx
-cons-words x s hx hs (suc i) = hs i
-
--- the same, element by element: the form that a list written out is proved in
-abbrev pub EachWord : List ℕ → Type 0
-EachWord [] = Unit {0}
-EachWord (x ∷ s) = (x < 2 ^ 64) × EachWord s
-
-pub each-words : (s : List ℕ) → EachWord s → AllWords s
-each-words [] h = none-words
-each-words (x ∷ s) h = cons-words x s (h .0) (each-words s (h .1))
-
-pub set-words : (s : List ℕ) (k v : ℕ) → AllWords s → v < 2 ^ 64 → AllWords (set s k v)
-set-words [] k v hs hv = hs
-set-words (x ∷ s) zero v hs hv = cons-words v s hv (λ i. hs (suc i))
-set-words (x ∷ s) (suc k) v hs hv = cons-words x (set s k v) (hs zero) (set-words s k v (λ i. hs (suc i)) hv)
 
 pub set-state : {s : List ℕ} (k v : ℕ) → IsState s → v < 2 ^ 64 → IsState (set s k v)
 set-state {s} k v h hv = record { len = length-set s k v ∙ h .len; word = set-words s k v (h .word) hv }

@@ -14,7 +14,8 @@ use Rattle.permutation.specs.declared.Quad.{Quad}
 use Rattle.permutation.specs.Round.{halfG, G, wordsAt, putWords, applyG, applyAll, quads, round, rounds}
 use Rattle.permutation.specs.Inverse.{Addition, unHalfG, unG, unapplyG, unapplyAll, unround, unrounds}
 use Rattle.permutation.proofs.WordLaws.{xor-undo, turn-word, turn-undo}
-use Rattle.permutation.proofs.State.{AllWords, IsState, set-state}
+use Rattle.lists.proofs.Words.{AllWords}
+use Rattle.permutation.proofs.State.{IsState, set-state}
 use Rattle.permutation.proofs.Quads.{Spread, Each, quads-spread}
 
 -- four words

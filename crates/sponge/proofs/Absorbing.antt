@@ -6,14 +6,15 @@ use native.Mathlib.Omega.{arith}
 use mathlib.Core.List.{List}
 use lib.ListN.{length}
 use lib.Bits.{bitXor}
+use Rattle.lists.specs.Zip.{xorInto}
+use Rattle.lists.proofs.Words.{AllWords, each-words}
+use Rattle.lists.proofs.ZipLaws.{length-zip, zip-undo, zip-inj, xor-words}
 use Rattle.permutation.specs.Inverse.{Addition, unrounds}
 use Rattle.permutation.proofs.WordLaws.{xor-undo, xor-undo-left}
-use Rattle.permutation.proofs.State.{AllWords, IsState, EachWord, each-words}
+use Rattle.permutation.proofs.State.{IsState}
 use Rattle.permutation.proofs.Undo.{rounds-state, rounds-undo}
-use Rattle.sponge.specs.Lists.{xorInto}
 use Rattle.sponge.specs.Profile.{start, startingWords}
 use Rattle.sponge.specs.Sponge.{absorb, unabsorb}
-use Rattle.sponge.proofs.Zip.{length-zip, zip-undo, zip-inj, xor-words}
 
 pub start-state : IsState start
 unfolding start startingWords

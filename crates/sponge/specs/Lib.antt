@@ -1,4 +1,3 @@
--- The sponge over the permutation: lists of words, the fixed numbers, absorbing and duplexing.
-pub mod Lists
+-- The sponge over the permutation: the fixed numbers, absorbing and duplexing.
 pub mod Profile
 pub mod Sponge

@@ -5,7 +5,7 @@ use lib.ListN.{getD}
 use Rattle.permutation.specs.Word.{plainSum}
 use Rattle.permutation.specs.Round.{rounds}
 use Rattle.permutation.specs.Inverse.{unrounds}
-use Rattle.sponge.specs.Lists.{zipInto, xorInto, tabulate}
+use Rattle.lists.specs.Zip.{zipInto, xorInto, tabulate}
 use Rattle.sponge.specs.Profile.{cellWords}
 
 -- words XORed into the first words of the state, then a call of n rounds

@@ -6,7 +6,7 @@ ghost use Prim.Native.Nat.{_≤_};
 ghost use lib.ListN.{length};
 ghost use Rattle.permutation.specs.Word.{plainSum};
 ghost use Rattle.permutation.specs.Round.{rounds};
-ghost use Rattle.sponge.specs.Lists.{xorInto};
+ghost use Rattle.lists.specs.Zip.{xorInto};
 ghost use Rattle.sponge.specs.Profile.{fullRounds, reducedRounds};
 ghost use Rattle.sponge.specs.Sponge.{absorb, rand, cellSum};
 
@@ -26,10 +26,10 @@ fn xor_words(s: &mut [u64; 16], words: &[u64])
     requires { ⌜ length (now words) ≤ 16 ⌝ }
     ensures { λ _. ⌜ now (s .exit) ≡ xorInto (now (s .entry)) (now (words .entry)) ⌝ }
 {
-    let mut j = 0;
-    while j < words.len() {
-        s[j] = s[j] ^ words[j];
-        j += 1;
+    let mut i = 0;
+    while i < words.len() {
+        s[i] = s[i] ^ words[i];
+        i += 1;
     }
 }
 

@@ -49,9 +49,11 @@ loop-less c = omega arith
 loop-again : tie.Need-loop-again Inv-loop μ-loop
 loop-again c =
     let head = c .before .before .before in
-    let start = head .before .before in
-    (omega arith, ap₂ (λ (x y : ℕ). x * 256 + y) (head .loop .inv .1) (c .widened .ensures)
-    ∙ sym (from-more (now (start .args .bytes)) (start .args .at) (start .pre) (head .loop .i - 1) (head .loop .i) (omega arith) (omega arith)))
+    let start = head .before .before in (
+      omega arith,
+      ap₂ (λ (x y : ℕ). x * 256 + y) (head .loop .inv .1) (c .widened .ensures)
+          ∙ sym (from-more (now (start .args .bytes)) (start .args .at) (start .pre) (head .loop .i - 1) (head .loop .i) (omega arith) (omega arith)),
+    )
 
 returns : tie.Need-returns Inv-loop μ-loop
 returns c =

@@ -1,7 +1,7 @@
 use mathlib.Core.Path.{refl}
 use borrow.Author.Needs.{needs}
 use Rattle.sponge.specs.Sponge.{rand}
-use Rattle.sponge.specs.Lists.{tabulate}
+use Rattle.lists.specs.Zip.{tabulate}
 use Rattle.sponge.proofs.duplex.output.Statement.{statement}
 use Rattle.sponge.proofs.duplex.output.Tie as tie
 use Rattle.sponge.proofs.duplex.output.Reads as reads

@@ -5,9 +5,10 @@ use native.Mathlib.Omega.{arith}
 use native.Mathlib.Numerals.{add-one}
 use lib.ListN.{take}
 use lib.Bits.{bitXor}
-use Rattle.sponge.specs.Lists.{xorInto}
+use Rattle.lists.specs.Zip.{xorInto}
 use Rattle.sponge.specs.Sponge.{cellSum}
-use Rattle.sponge.proofs.Zip.{zip-none, zip-again, zip-end, sum4-at, length-sum2, length-sum3}
+use Rattle.lists.proofs.ZipLaws.{zip-none, zip-again, zip-end}
+use Rattle.sponge.proofs.Sums.{sum4-at, length-sum2, length-sum3}
 use Rattle.sponge.proofs.duplex.xor_sum4.Statement.{statement}
 use Rattle.sponge.proofs.duplex.xor_sum4.Tie as tie
 use Rattle.sponge.proofs.duplex.xor_sum4.Reads as reads

@@ -1,22 +1,22 @@
--- `xor_words` meets its contract. The loop's invariant: the first j words are in. Assumes nothing.
+-- `xor_words` meets its contract. The loop's invariant: the first i words are in. Assumes nothing.
 use mathlib.Core.Path.{_≡_, refl, sym}
 use Prim.Native.Nat.{_≤_, _-_}
 use native.Mathlib.Omega.{arith}
 use native.Mathlib.Numerals.{add-one}
 use lib.ListN.{length, take}
 use lib.Bits.{bitXor}
-use Rattle.sponge.specs.Lists.{xorInto}
-use Rattle.sponge.proofs.Zip.{zip-none, zip-again, zip-end}
+use Rattle.lists.specs.Zip.{xorInto}
+use Rattle.lists.proofs.ZipLaws.{zip-none, zip-again, zip-end}
 use Rattle.sponge.proofs.duplex.xor_words.Statement.{statement}
 use Rattle.sponge.proofs.duplex.xor_words.Tie as tie
 use Rattle.sponge.proofs.duplex.xor_words.Reads as reads
 use Rattle.sponge.proofs.duplex.xor_words.Lts as lts
 
 abbrev Inv-loop : tie.InvT-loop
-Inv-loop s₀ words j₀ s j = (j ≤ length words) × (s ≡ xorInto s₀ (take j words))
+Inv-loop s₀ words i₀ s i = (i ≤ length words) × (s ≡ xorInto s₀ (take i words))
 
 abbrev μ-loop : tie.MeasureT-loop
-μ-loop s₀ words j₀ s j = length words - j
+μ-loop s₀ words i₀ s i = length words - i
 
 -- src/duplex.rt:29:5
 loop-holds : tie.Need-loop-holds Inv-loop μ-loop
@@ -47,8 +47,8 @@ element-write-s : tie.Need-element-write-s Inv-loop μ-loop
 element-write-s c = omega arith
 
 -- src/duplex.rt:31:9
-add-j : tie.Need-add-j Inv-loop μ-loop
-add-j c = omega arith
+add-i : tie.Need-add-i Inv-loop μ-loop
+add-i c = omega arith
 
 -- src/duplex.rt:29:5
 loop-less : tie.Need-loop-less Inv-loop μ-loop
@@ -62,7 +62,7 @@ loop-again c =
 
 -- src/duplex.rt:24:1
 returns : tie.Need-returns Inv-loop μ-loop
-returns c = zip-end bitXor _ _ _ (c .before .loop .j) _ refl (c .before .loop .inv .1) (omega arith)
+returns c = zip-end bitXor _ _ _ (c .before .loop .i) _ refl (c .before .loop .inv .1) (omega arith)
 
 pub xor-words-spec : {M : Type 1} → statement M
 xor-words-spec =
@@ -77,7 +77,7 @@ xor-words-spec =
     shared-slice-read-s
     mul-s-3
     element-write-s
-    add-j
+    add-i
     loop-less
     loop-again
     returns)

@@ -7,10 +7,8 @@ use mathlib.Core.List.{List, [], _∷_}
 use lib.ListN.{length, getD, take, set}
 use lib.Seq.{take-all}
 use lib.Bits.{bitXor, xor-lt}
-use Rattle.permutation.specs.Word.{plainSum}
-use Rattle.permutation.proofs.State.{AllWords, cons-words}
-use Rattle.sponge.specs.Lists.{zipInto, xorInto, tabulate}
-use Rattle.sponge.specs.Sponge.{cellSum}
+use Rattle.lists.specs.Zip.{zipInto, xorInto, putInto, tabulate}
+use Rattle.lists.proofs.Words.{AllWords, cons-words}
 
 module _ (f : ℕ → ℕ → ℕ) where
   pub zip-none : (xs : List ℕ) → zipInto f xs [] ≡ xs
@@ -95,26 +93,10 @@ zip-words f hf (x ∷ xs) (y ∷ ys) hx hy =
 pub xor-words : (xs ys : List ℕ) → AllWords xs → AllWords ys → AllWords (xorInto xs ys)
 xor-words = zip-words bitXor (xor-lt 64)
 
--- ---- sums of cells, n words each
-
-pub sum2-at : (n : ℕ) (a b : List ℕ) → length a ≡ n → length b ≡ n → (j : ℕ) → j < n → plainSum (getD a j 0) (getD b j 0) ≡ getD (cellSum a b) j 0
-unfolding cellSum
-sum2-at n a b la lb j h = sym (getD-zip plainSum a b j (omega arith) (omega arith))
-
-pub length-sum2 : (n : ℕ) (a b : List ℕ) → length a ≡ n → length (cellSum a b) ≡ n
-unfolding cellSum
-length-sum2 n a b la = length-zip plainSum a b ∙ la
-
-module _ (n : ℕ) (a b c : List ℕ) (la : length a ≡ n) (lb : length b ≡ n) (lc : length c ≡ n) where
-  pub sum3-at : (j : ℕ) → j < n → plainSum (plainSum (getD a j 0) (getD b j 0)) (getD c j 0) ≡ getD (cellSum (cellSum a b) c) j 0
-  sum3-at j h =
-      ap (λ (x : ℕ). plainSum x (getD c j 0)) (sum2-at n a b la lb j h)
-      ∙ sum2-at n (cellSum a b) c (length-sum2 n a b la) lc j h
-
-  pub length-sum3 : length (cellSum (cellSum a b) c) ≡ n
-  length-sum3 = length-sum2 n (cellSum a b) c (length-sum2 n a b la)
-
-  pub sum4-at : (d : List ℕ) → length d ≡ n → (j : ℕ) → j < n → plainSum (plainSum (plainSum (getD a j 0) (getD b j 0)) (getD c j 0)) (getD d j 0) ≡ getD (cellSum (cellSum (cellSum a b) c) d) j 0
-  sum4-at d ld j h =
-      ap (λ (x : ℕ). plainSum x (getD d j 0)) (sum3-at j h)
-      ∙ sum2-at n (cellSum (cellSum a b) c) d length-sum3 ld j h
+-- as many words as there are places cover what stood there
+pub put-all : (xs ys : List ℕ) → length ys ≡ length xs → putInto xs ys ≡ ys
+unfolding zipInto
+put-all [] [] e = refl
+put-all [] (y ∷ ys) e = absurd (omega arith)
+put-all (x ∷ xs) [] e = absurd (omega arith)
+put-all (x ∷ xs) (y ∷ ys) e = ap (λ (l : List ℕ). y ∷ l) (put-all xs ys (suc-inj e))

@@ -13,7 +13,11 @@ zipInto f (x ∷ xs) (y ∷ ys) = f x y ∷ zipInto f xs ys
 abbrev pub xorInto : List ℕ → List ℕ → List ℕ
 xorInto = zipInto bitXor
 
--- the list of f 0, f 1, .., f (n - 1), behind which the rest stands
+-- words put in place of the first words of a list
+abbrev pub putInto : List ℕ → List ℕ → List ℕ
+putInto = zipInto (λ x y. y)
+
+-- the list of f 0, f 1, .., f (n - 1)
 unfoldable pub tabulate : ℕ → (ℕ → ℕ) → List ℕ
 tabulate zero f = []
 tabulate (suc n) f = f zero ∷ tabulate n (λ i. f (suc i))

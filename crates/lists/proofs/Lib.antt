@@ -1,0 +1,3 @@
+-- The laws of lists of words.
+pub mod Words
+pub mod ZipLaws

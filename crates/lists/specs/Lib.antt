@@ -1,0 +1,2 @@
+-- Lists of words, place by place: the vocabulary that the crates above share.
+pub mod Zip
