@@ -1,0 +1,76 @@
+//! The time of a reduced call, one round: the proved permutation beside the same in Rust, interleaved.
+
+use sponge_link::{State, STARTING_WORDS};
+use std::hint::black_box;
+use std::time::Instant;
+
+const CALLS: usize = 200_000;
+const TURNS: usize = 101;
+
+const QUADS: [[usize; 4]; 8] = [
+    [0, 4, 8, 12],
+    [1, 5, 9, 13],
+    [2, 6, 10, 14],
+    [3, 7, 11, 15],
+    [0, 5, 10, 15],
+    [1, 6, 11, 12],
+    [2, 7, 8, 13],
+    [3, 4, 9, 14],
+];
+
+/// The rounds as Rust code for speed writes them.
+#[inline(never)]
+fn rounds_in_rust(s: &mut State, n: usize) {
+    for _ in 0..n {
+        for [i, j, k, l] in QUADS {
+            let (mut a, mut b, mut c, mut d) = (s[i], s[j], s[k], s[l]);
+            a = a.wrapping_add(b);
+            d = (d ^ a).rotate_right(32);
+            c = c.wrapping_add(d);
+            b = (b ^ c).rotate_right(24);
+            a = a.wrapping_add(b);
+            d = (d ^ a).rotate_right(16);
+            c = c.wrapping_add(d);
+            b = (b ^ c).rotate_right(63);
+            (s[i], s[j], s[k], s[l]) = (a, b, c, d);
+        }
+    }
+}
+
+/// Nanoseconds a call of one run, and the state that it ends in.
+fn timed(run: fn(&mut State, usize)) -> (f64, State) {
+    let mut s: State = [0; 16];
+    s[8..].copy_from_slice(&STARTING_WORDS);
+    let mut s = black_box(s);
+    let began = Instant::now();
+    run(&mut s, CALLS);
+    let spent = began.elapsed();
+    (spent.as_nanos() as f64 / CALLS as f64, black_box(s))
+}
+
+fn minimum_and_median(mut times: Vec<f64>) -> (f64, f64) {
+    times.sort_by(f64::total_cmp);
+    (times[0], times[times.len() / 2])
+}
+
+fn main() {
+    let mut proved = Vec::new();
+    let mut rust = Vec::new();
+    for _ in 0..TURNS {
+        let (time, end) = timed(sponge_link::rounds);
+        let (other, same) = timed(rounds_in_rust);
+        assert_eq!(end, same, "the two end in different states");
+        proved.push(time);
+        rust.push(other);
+    }
+    let (least, middle) = minimum_and_median(proved);
+    let (rust_least, rust_middle) = minimum_and_median(rust);
+    println!("a reduced call, ns        minimum   median");
+    println!("proved, static library    {least:7.2}  {middle:7.2}");
+    println!("Rust, opt-level 3         {rust_least:7.2}  {rust_middle:7.2}");
+    println!(
+        "ratio                     {:7.3}  {:7.3}",
+        least / rust_least,
+        middle / rust_middle
+    );
+}
