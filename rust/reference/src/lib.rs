@@ -24,6 +24,7 @@ mod matrix;
 pub mod refusal;
 mod setup;
 pub mod sponge;
+pub mod vectors;
 pub mod walk;
 mod wandering;
 

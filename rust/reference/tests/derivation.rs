@@ -131,8 +131,9 @@ fn state_matrix_and_record_give_the_key() {
         let mut state = end.answer.state;
         let last_visit = end.record.len() - (2 + 2 * c as usize);
         let cell_start = (12 * end.record[last_visit] * c) as usize;
-        for j in 0..12 {
-            state[j] ^= end.matrix[cell_start + j];
+        let cell = &end.matrix[cell_start..cell_start + 12];
+        for (state_word, cell_word) in state.iter_mut().zip(cell) {
+            *state_word ^= cell_word;
         }
         let mut key = Vec::new();
         while key.len() < 200 {

@@ -40,7 +40,7 @@ fn answers(call: &Call) -> [u8; 4] {
     let mut key = vec![3; call.key_len];
     let mut matrix = vec![4; call.matrix_words];
     let mut record = vec![5; call.record_words];
-    let mut untouched = |number: u8, key: &mut [u8], matrix: &mut [u64], record: &mut [u64]| {
+    let untouched = |number: u8, key: &mut [u8], matrix: &mut [u64], record: &mut [u64]| {
         if number != 0 {
             assert!(key.iter().all(|&byte| byte == 3), "key: {call:?}");
             assert!(matrix.iter().all(|&word| word == 4), "matrix: {call:?}");
