@@ -5,7 +5,7 @@ use crate::matrix::{Column, Matrix};
 use crate::refusal::{self, Refusal};
 use crate::setup::setup;
 use crate::sponge::{Counts, Sponge, State, CELL_WORDS};
-use crate::wandering::{wander, Rows};
+use crate::visits::{visit_all, Rows};
 
 /// Bytes of key that one state gives.
 const PIECE_BYTES: usize = 8 * CELL_WORDS;
@@ -109,7 +109,7 @@ fn run(
         row1: walk.prev1(),
     };
     let visits = inputs.r * inputs.t;
-    let last = wander(&mut sponge, &mut matrix, visits, after_setup, note);
+    let last = visit_all(&mut sponge, &mut matrix, visits, after_setup, note);
     let state = sponge.state();
 
     sponge.absorb_cell(&matrix.cell(last.row0, Column(0)));

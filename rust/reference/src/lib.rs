@@ -9,10 +9,21 @@
 //! | `input` | 1 to 3 |
 //! | `walk` | 4, 5 and 16 to 20 |
 //! | `setup` | 6 to 15 |
-//! | `wandering` | 22 to 32 |
+//! | `visits` | 22 to 32 |
 //! | `derivation` | 33 to 36, and the operations open to callers |
 //!
 //! The caller lends every buffer. A refused call leaves all of them as they were.
+//!
+//! ```
+//! use lyra2_reference::{check, derive, Inputs, Refusal};
+//!
+//! let inputs = Inputs { password: b"password", salt: b"saltsalt", t: 1, r: 8, c: 4 };
+//! let mut key = [0; 32];
+//! let mut matrix = vec![0; 12 * 8 * 4];
+//! derive(&inputs, &mut key, &mut matrix)?;
+//! assert!(check(&inputs, &key, &mut matrix)?.matches);
+//! # Ok::<(), Refusal>(())
+//! ```
 
 #![forbid(unsafe_code)]
 #![warn(missing_docs)]
@@ -25,8 +36,8 @@ pub mod refusal;
 mod setup;
 pub mod sponge;
 pub mod vectors;
+mod visits;
 pub mod walk;
-mod wandering;
 
 pub use cost::cost;
 pub use derivation::{check, derive, derive_recorded, Checked, Inputs, Recorded};

@@ -9,26 +9,26 @@ pub const FIRST_STEP: usize = 3;
 /// The variables of the walk, as they stand when a Setup step begins.
 #[derive(Clone, Debug)]
 pub struct SetupWalk {
+    prev0: usize,
+    row1: usize,
+    prev1: usize,
     gap: isize,
     stp: usize,
     wnd: usize,
     sqrt: usize,
-    prev0: usize,
-    row1: usize,
-    prev1: usize,
 }
 
 impl SetupWalk {
     /// Lines 4 and 5: the variables before the step of row 3.
     pub fn start() -> SetupWalk {
         SetupWalk {
+            prev0: 2,
+            row1: 1,
+            prev1: 0,
             gap: 1,
             stp: 1,
             wnd: 2,
             sqrt: 2,
-            prev0: 2,
-            row1: 1,
-            prev1: 0,
         }
     }
 

@@ -211,7 +211,7 @@ fn program_says_that_a_file_holds() {
     assert!(output.status.success());
     let text = String::from_utf8(output.stdout).unwrap();
     assert!(
-        text.ends_with(": 1 cases hold, 0 of them refusals\n"),
+        text.ends_with(": all hold (cases: 1, refusals: 0)\n"),
         "{text}"
     );
 }

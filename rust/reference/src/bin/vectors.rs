@@ -5,6 +5,7 @@
 use lyra2_reference::vectors::random::{self, Random};
 use lyra2_reference::vectors::{chosen_text, read, run, write, Answer, Reference};
 use std::ffi::OsString;
+use std::fs::OpenOptions;
 use std::io::Write;
 use std::path::Path;
 use std::process::ExitCode;
@@ -49,8 +50,13 @@ fn number(name: &str, argument: &OsString) -> Result<u64, String> {
 }
 
 fn write_file(file: &Path) -> Result<String, String> {
+    let at_file = |error: std::io::Error| format!("{}: {error}", file.display());
+    // Tried first, and without emptying the file: a bad name shows before the work, not after it.
+    let mut attempt = OpenOptions::new();
+    attempt.write(true).create(true).truncate(false);
+    attempt.open(file).map_err(at_file)?;
     let text = chosen_text()?;
-    std::fs::write(file, &text).map_err(|error| format!("{}: {error}", file.display()))?;
+    std::fs::write(file, &text).map_err(at_file)?;
     let cases = text.lines().filter(|line| !line.starts_with('#')).count();
     Ok(format!("{}: {cases} cases written", file.display()))
 }
@@ -68,7 +74,7 @@ fn check_file(file: &Path) -> Result<String, String> {
     let refusals = refusals.count();
     let cases = cases.len();
     Ok(format!(
-        "{name}: {cases} cases hold, {refusals} of them refusals"
+        "{name}: all hold (cases: {cases}, refusals: {refusals})"
     ))
 }
 

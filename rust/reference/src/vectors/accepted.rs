@@ -400,46 +400,11 @@ fn walks() -> Vec<Question> {
     questions
 }
 
-/// Inputs that the walk program accepts, and some of all the others.
 fn walk_programs() -> Vec<Question> {
-    let numbers = (3..=40).chain([99, 100, 999, 1000, 9999, 10_000, 16_383, 16_384]);
-    let accepted = numbers.map(|r: u32| format!("{r}\n"));
-    let refused = [
-        "",
-        "\n",
-        "8",
-        "8\n\n",
-        "8\r\n",
-        " 8\n",
-        "8 \n",
-        "+8\n",
-        "-8\n",
-        "08\n",
-        "00008\n",
-        "0\n",
-        "1\n",
-        "2\n",
-        "16385\n",
-        "65539\n",
-        "99999\n",
-        "016384\n",
-        "100000\n",
-        "8\n8\n",
-        "8\n ",
-        "\n8\n",
-        "8\0\n",
-        "\u{0}8\n",
-        "0x8\n",
-        "8.0\n",
-        "a\n",
-        "\u{0968}\n",
-        "4294967304\n",
-        "18446744073709551624\n",
-    ];
-    accepted
-        .chain(refused.map(String::from))
-        .map(|input| Question::WalkProgram {
-            input: input.into_bytes(),
+    (3..=40)
+        .chain([99, 100, 999, 1000, 9999, 10_000, 16_383, 16_384])
+        .map(|r| Question::WalkProgram {
+            input: format!("{r}\n").into_bytes(),
         })
         .collect()
 }

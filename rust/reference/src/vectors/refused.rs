@@ -88,6 +88,7 @@ pub fn questions() -> Vec<Question> {
         all_from_one_on(),
         cost_lengths(),
         walks(),
+        walk_programs(),
     ]
     .concat()
 }
@@ -274,4 +275,46 @@ fn walks() -> Vec<Question> {
         }
     }
     questions
+}
+
+/// Inputs of the walk program that are outside the limits or not of its form.
+const REFUSED_INPUTS: [&[u8]; 31] = [
+    b"",
+    b"\n",
+    b"8",
+    b"8\n\n",
+    b"8\r\n",
+    b" 8\n",
+    b"8 \n",
+    b"+8\n",
+    b"-8\n",
+    b"08\n",
+    b"00008\n",
+    b"0\n",
+    b"1\n",
+    b"2\n",
+    b"16385\n",
+    b"65539\n",
+    b"99999\n",
+    b"016384\n",
+    b"100000\n",
+    b"8\n8\n",
+    b"8\n ",
+    b"\n8\n",
+    b"8\0\n",
+    b"\08\n",
+    b"0x8\n",
+    b"8.0\n",
+    b"a\n",
+    b"\xe0\xa5\xa8\n",
+    b"\xff\n",
+    b"4294967304\n",
+    b"18446744073709551624\n",
+];
+
+fn walk_programs() -> Vec<Question> {
+    let question = |input: &[u8]| Question::WalkProgram {
+        input: input.to_vec(),
+    };
+    REFUSED_INPUTS.map(question).to_vec()
 }

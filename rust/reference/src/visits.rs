@@ -1,4 +1,4 @@
-//! The Wandering phase: R·T visits to rows that the output picks (Algorithm 2, lines 22 to 32).
+//! The visits (Wandering phase): R·T pairs of rows that the output picks (Algorithm 2, lines 22 to 32).
 
 use crate::matrix::{rot, sum, Matrix, Row};
 use crate::sponge::Sponge;
@@ -13,7 +13,7 @@ pub struct Rows {
 }
 
 /// Makes the visits, notes down each row and column number, and returns the rows of the last visit.
-pub fn wander(
+pub fn visit_all(
     sponge: &mut Sponge,
     matrix: &mut Matrix,
     visits: u64,
