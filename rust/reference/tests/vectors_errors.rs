@@ -15,6 +15,11 @@ const CHECK: &str = "case=1 op=check stored=00 password_zeros=3 salt_zeros=8 \
     matrix_sum=0000000000000000";
 const PROGRAM: &str = "case=1 op=walk_program input=330a \
     output_len=0 output_sum=cbf29ce484222325 output=";
+const DERIVED: &str = "case=1 op=derive key_len=32 \
+    password=c082a4fdfff10ac23f242265b58e7cee418014e1bb656d29 \
+    salt=970d19add285c93d3e6acf7f93f5e9cc T=1 R=3 C=1 matrix_words=36 refusal=0 \
+    key=01ff1f6b8a2f3c033f24023a1d9f6f9677f2a0b272bfdc823d4d637acfbaddab \
+    full=3 reduced=6 rounds=42 matrix_sum=0f3c14690553fc4a";
 
 /// The problem that reading a line gives, which must be laid to that line.
 fn problem(line: &str) -> String {
@@ -32,7 +37,7 @@ fn replaced(line: &str, part: &str, by: &str) -> String {
 
 #[test]
 fn the_lines_that_the_others_start_from_are_good() {
-    for line in [WALK, COST, REFUSED, CHECK, PROGRAM] {
+    for line in [WALK, COST, REFUSED, CHECK, PROGRAM, DERIVED] {
         assert!(read(format!("{line}\n").as_bytes()).is_ok(), "{line}");
     }
     assert_eq!(read(b""), Ok(Vec::new()));
@@ -197,6 +202,12 @@ fn program_says_where_a_file_is_bad() {
     let expected = "1: case 1: field refusal: 0 is due, 9 was found";
     assert_eq!(
         complaint_about("accepted.txt", &format!("{accepted}\n")),
+        expected
+    );
+    let derived = DERIVED.replace("addab", "addac");
+    let expected = "1: case 1: field key: from digit 63 on, c is due, b was found";
+    assert_eq!(
+        complaint_about("key.txt", &format!("{derived}\n")),
         expected
     );
     let sum = complaint_about("sum.txt", &format!("{CHECK}\n"));

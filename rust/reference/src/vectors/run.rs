@@ -130,11 +130,22 @@ pub fn compare(expected: &Answer, found: &Answer) -> Result<(), String> {
     let (expected, found) = (write::answer(expected), write::answer(found));
     let differing = expected.iter().zip(&found).find(|(x, y)| x != y);
     Err(match differing {
-        Some(((name, x), (_, y))) => {
-            format!("field {name}: {} is due, {} was found", short(x), short(y))
-        }
+        Some(((name, x), (_, y))) => format!("field {name}: {}", difference(x, y)),
         None => "the two answers do not have the same fields".to_string(),
     })
+}
+
+/// Says how two values differ; of long ones, from where on.
+fn difference(expected: &str, found: &str) -> String {
+    let same = expected.bytes().zip(found.bytes());
+    let place = same.take_while(|(x, y)| x == y).count();
+    let (start, place) = if expected.len() > 40 {
+        (format!("from digit {place} on, "), place)
+    } else {
+        (String::new(), 0)
+    };
+    let (expected, found) = (short(&expected[place..]), short(&found[place..]));
+    format!("{start}{expected} is due, {found} was found")
 }
 
 /// Puts a case's question, compares the answer, and asks the other operations about the same inputs.
@@ -149,66 +160,79 @@ pub fn agree(subject: &impl Subject, question: &Question, answer: &Answer) -> Re
     let Question::DeriveRecorded { given, key_len, .. } = question else {
         return Ok(());
     };
-    let cost = Question::Cost(given.parameters(*key_len));
-    let plain = Question::Derive {
-        given: given.clone(),
-        key_len: *key_len,
-    };
     match answer {
         Answer::Recorded {
             key,
             counts,
             matrix_sum,
             ..
-        } => {
-            let derived = Answer::Derived {
-                key: key.clone(),
-                counts: *counts,
-                matrix_sum: *matrix_sum,
-            };
-            expect(subject, &cost, &Answer::Cost(*counts))?;
-            expect(subject, &plain, &derived)?;
-            agree_on_checks(subject, given, key, *counts, *matrix_sum)
-        }
-        Answer::Refused(refusal) => {
-            if *refusal < Refusal::RecordWords {
-                expect(subject, &plain, answer)?;
-            }
-            if *refusal < Refusal::MatrixWords {
-                expect(subject, &cost, answer)?;
-            }
-            Ok(())
-        }
+        } => agree_on_key(subject, given, key, *counts, *matrix_sum),
+        Answer::Refused(refusal) => agree_on_refusal(subject, given, *key_len, *refusal),
         _ => Err("a recorded derivation gave another operation's answer".to_string()),
     }
 }
 
-/// Checks the right key and a key with one wrong byte, whose place differs from case to case.
-fn agree_on_checks(
+fn agree_on_key(
     subject: &impl Subject,
     given: &Given,
     key: &[u8],
     counts: Counts,
     matrix_sum: u64,
 ) -> Result<(), String> {
+    let key_len = key.len() as u64;
+    let cost = Question::Cost(given.parameters(key_len));
+    expect(subject, &cost, &Answer::Cost(counts))?;
+    let derived = Answer::Derived {
+        key: key.to_vec(),
+        counts,
+        matrix_sum,
+    };
+    expect(subject, &derive_question(given, key_len), &derived)?;
     let mut wrong_key = key.to_vec();
-    let place = matrix_sum % key.len().max(1) as u64;
+    // The place of the wrong byte differs from case to case.
+    let place = matrix_sum % key_len.max(1);
     if let Some(byte) = wrong_key.get_mut(place as usize) {
         *byte ^= 0x10;
     }
     for (stored, matches) in [(key.to_vec(), true), (wrong_key, false)] {
-        let question = Question::Check {
-            given: given.clone(),
-            stored: Bytes::Listed(stored),
-        };
         let checked = Answer::Checked {
             matches,
             counts,
             matrix_sum,
         };
-        expect(subject, &question, &checked)?;
+        let check = check_question(given, Bytes::Listed(stored));
+        expect(subject, &check, &checked)?;
     }
     Ok(())
+}
+
+fn agree_on_refusal(
+    subject: &impl Subject,
+    given: &Given,
+    key_len: u64,
+    refusal: Refusal,
+) -> Result<(), String> {
+    let answer = Answer::Refused(refusal);
+    if refusal < Refusal::RecordWords {
+        expect(subject, &derive_question(given, key_len), &answer)?;
+        let check = check_question(given, Bytes::Zeros(key_len));
+        expect(subject, &check, &answer)?;
+    }
+    if refusal < Refusal::MatrixWords {
+        let cost = Question::Cost(given.parameters(key_len));
+        expect(subject, &cost, &answer)?;
+    }
+    Ok(())
+}
+
+fn derive_question(given: &Given, key_len: u64) -> Question {
+    let given = given.clone();
+    Question::Derive { given, key_len }
+}
+
+fn check_question(given: &Given, stored: Bytes) -> Question {
+    let given = given.clone();
+    Question::Check { given, stored }
 }
 
 fn expect(subject: &impl Subject, question: &Question, expected: &Answer) -> Result<(), String> {
