@@ -1,0 +1,139 @@
+//! The operations open to callers that derive a key, and the key's output (Algorithm 2, lines 33 to 36).
+
+use crate::input::{absorb_input, padded_input, Parameters};
+use crate::matrix::{Column, Matrix};
+use crate::refusal::{self, Refusal};
+use crate::setup::setup;
+use crate::sponge::{Counts, Sponge, State, CELL_WORDS};
+use crate::visits::{visit_all, Rows};
+
+/// Bytes of key that one state gives.
+const PIECE_BYTES: usize = 8 * CELL_WORDS;
+
+/// What a derivation is made from, apart from the lent buffers.
+#[derive(Clone, Copy, Debug)]
+pub struct Inputs<'a> {
+    /// The password.
+    pub password: &'a [u8],
+    /// The salt.
+    pub salt: &'a [u8],
+    /// The time cost T.
+    pub t: u64,
+    /// The number of rows R.
+    pub r: u64,
+    /// The number of columns C.
+    pub c: u64,
+}
+
+impl Inputs<'_> {
+    /// The six numbers of the input, for a key of this length.
+    pub fn parameters(&self, key_len: usize) -> Parameters {
+        Parameters {
+            key_len: key_len as u64,
+            password_len: self.password.len() as u64,
+            salt_len: self.salt.len() as u64,
+            t: self.t,
+            r: self.r,
+            c: self.c,
+        }
+    }
+}
+
+/// What the recorded derivation returns beside the lent buffers.
+#[derive(Clone, Copy, Debug, PartialEq, Eq)]
+pub struct Recorded {
+    /// The state after the last visit.
+    pub state: State,
+    /// What was spent.
+    pub counts: Counts,
+}
+
+/// What a check returns.
+#[derive(Clone, Copy, Debug, PartialEq, Eq)]
+pub struct Checked {
+    /// Whether the derived key is the stored one.
+    pub matches: bool,
+    /// What was spent.
+    pub counts: Counts,
+}
+
+/// The recorded derivation: fills the key, the used matrix and the used record.
+pub fn derive_recorded(
+    inputs: &Inputs,
+    key: &mut [u8],
+    matrix: &mut [u64],
+    record: &mut [u64],
+) -> Result<Recorded, Refusal> {
+    refusal::check_record(&inputs.parameters(key.len()), matrix, record)?;
+    let mut places = record.iter_mut();
+    let mut note = |number: usize| {
+        if let Some(place) = places.next() {
+            *place = number as u64;
+        }
+    };
+    Ok(run(inputs, key, matrix, &mut note))
+}
+
+/// The plain derivation: fills the key and the used matrix.
+pub fn derive(inputs: &Inputs, key: &mut [u8], matrix: &mut [u64]) -> Result<Counts, Refusal> {
+    refusal::check_matrix(&inputs.parameters(key.len()), matrix)?;
+    Ok(run(inputs, key, matrix, &mut |_| ()).counts)
+}
+
+/// The check: derives a key as long as the stored one and says whether they are equal.
+pub fn check(inputs: &Inputs, stored: &[u8], matrix: &mut [u64]) -> Result<Checked, Refusal> {
+    refusal::check_matrix(&inputs.parameters(stored.len()), matrix)?;
+    let mut key = vec![0; stored.len()];
+    let counts = run(inputs, &mut key, matrix, &mut |_| ()).counts;
+    let matches = equal(&key, stored);
+    Ok(Checked { matches, counts })
+}
+
+/// Algorithm 2, for inputs and buffers that no check refuses.
+fn run(
+    inputs: &Inputs,
+    key: &mut [u8],
+    lent: &mut [u64],
+    note: &mut impl FnMut(usize),
+) -> Recorded {
+    let parameters = inputs.parameters(key.len());
+    let mut sponge = Sponge::start();
+    let input = padded_input(inputs.password, inputs.salt, &parameters);
+    absorb_input(&mut sponge, &input);
+
+    let mut matrix = Matrix::new(lent, inputs.r as usize, inputs.c as usize);
+    let walk = setup(&mut sponge, &mut matrix);
+
+    let after_setup = Rows {
+        row0: walk.prev0(),
+        row1: walk.prev1(),
+    };
+    let visits = inputs.r * inputs.t;
+    let last = visit_all(&mut sponge, &mut matrix, visits, after_setup, note);
+    let state = sponge.state();
+
+    sponge.absorb_cell(&matrix.cell(last.row0, Column(0)));
+    squeeze(&mut sponge, key);
+    let counts = sponge.counts();
+    Recorded { state, counts }
+}
+
+/// Line 35: a full call stands between two pieces of the key, and none before or after them.
+fn squeeze(sponge: &mut Sponge, key: &mut [u8]) {
+    for (number, piece) in key.chunks_mut(PIECE_BYTES).enumerate() {
+        if number > 0 {
+            sponge.full_call();
+        }
+        let output = sponge.rand().map(u64::to_le_bytes);
+        piece.copy_from_slice(&output.as_flattened()[..piece.len()]);
+    }
+}
+
+/// Compares without an early end, so that the time tells nothing of the first difference.
+fn equal(key: &[u8], stored: &[u8]) -> bool {
+    let differences = key
+        .iter()
+        .zip(stored)
+        .fold(0, |seen, (x, y)| seen | (x ^ y));
+    std::hint::black_box(differences) == 0
+}

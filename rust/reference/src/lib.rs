@@ -1,0 +1,47 @@
+//! A second Lyra2, made from Algorithm 2 of the reference guide and from document 01 alone.
+//!
+//! It shares no code with the product, so that where the two agree, a slip common to both is unlikely.
+//! Clarity comes before speed: each phase of the algorithm has a file of its own, in the order of the
+//! pseudocode, and comments there name the pseudocode's lines.
+//!
+//! | file | lines of Algorithm 2 |
+//! |---|---|
+//! | `input` | 1 to 3 |
+//! | `walk` | 4, 5 and 16 to 20 |
+//! | `setup` | 6 to 15 |
+//! | `visits` | 22 to 32 |
+//! | `derivation` | 33 to 36, and the operations open to callers |
+//!
+//! The caller lends every buffer. A refused call leaves all of them as they were.
+//!
+//! ```
+//! use lyra2_reference::{check, derive, Inputs, Refusal};
+//!
+//! let inputs = Inputs { password: b"password", salt: b"saltsalt", t: 1, r: 8, c: 4 };
+//! let mut key = [0; 32];
+//! let mut matrix = vec![0; 12 * 8 * 4];
+//! derive(&inputs, &mut key, &mut matrix)?;
+//! assert!(check(&inputs, &key, &mut matrix)?.matches);
+//! # Ok::<(), Refusal>(())
+//! ```
+
+#![forbid(unsafe_code)]
+#![warn(missing_docs)]
+
+pub mod cost;
+pub mod derivation;
+pub mod input;
+mod matrix;
+pub mod refusal;
+mod setup;
+pub mod sponge;
+pub mod vectors;
+mod visits;
+pub mod walk;
+
+pub use cost::cost;
+pub use derivation::{check, derive, derive_recorded, Checked, Inputs, Recorded};
+pub use input::Parameters;
+pub use refusal::Refusal;
+pub use sponge::Counts;
+pub use walk::{walk, walk_program};

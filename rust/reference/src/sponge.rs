@@ -1,0 +1,150 @@
+//! The sponge: BLAKE2b's permutation without message words, and the counted calls made of it.
+
+/// Words of the state.
+pub const STATE_WORDS: usize = 16;
+/// Words of an input block, the rate while the padded input is absorbed.
+pub const BLOCK_WORDS: usize = 8;
+/// Words of a cell, the rate of every later call.
+pub const CELL_WORDS: usize = 12;
+/// Rounds of a full call.
+pub const FULL_ROUNDS: u64 = 12;
+/// Rounds of a reduced call.
+pub const REDUCED_ROUNDS: u64 = 1;
+
+/// BLAKE2b's initialization vector, the upper half of the starting state.
+pub const STARTING_WORDS: [u64; 8] = [
+    0x6a09e667f3bcc908,
+    0xbb67ae8584caa73b,
+    0x3c6ef372fe94f82b,
+    0xa54ff53a5f1d36f1,
+    0x510e527fade682d1,
+    0x9b05688c2b3e6c1f,
+    0x1f83d9abfb41bd6b,
+    0x5be0cd19137e2179,
+];
+
+/// The state positions that a round gives to G, in order: four columns, then four diagonals.
+const QUADS: [[usize; 4]; 8] = [
+    [0, 4, 8, 12],
+    [1, 5, 9, 13],
+    [2, 6, 10, 14],
+    [3, 7, 11, 15],
+    [0, 5, 10, 15],
+    [1, 6, 11, 12],
+    [2, 7, 8, 13],
+    [3, 4, 9, 14],
+];
+
+/// The sponge's state.
+pub type State = [u64; STATE_WORDS];
+/// The contents of a cell, and also the sponge's output (document 01 calls it rand).
+pub type Cell = [u64; CELL_WORDS];
+
+/// BLAKE2b's G on four words, with no message words.
+pub fn g(mut a: u64, mut b: u64, mut c: u64, mut d: u64) -> [u64; 4] {
+    a = a.wrapping_add(b);
+    d = (d ^ a).rotate_right(32);
+    c = c.wrapping_add(d);
+    b = (b ^ c).rotate_right(24);
+    a = a.wrapping_add(b);
+    d = (d ^ a).rotate_right(16);
+    c = c.wrapping_add(d);
+    b = (b ^ c).rotate_right(63);
+    [a, b, c, d]
+}
+
+/// One round of the permutation.
+pub fn round(state: &mut State) {
+    for [i, j, k, l] in QUADS {
+        [state[i], state[j], state[k], state[l]] = g(state[i], state[j], state[k], state[l]);
+    }
+}
+
+/// What a derivation spends, counted in calls and in rounds.
+#[derive(Clone, Copy, Debug, Default, PartialEq, Eq)]
+pub struct Counts {
+    /// Full calls.
+    pub full: u64,
+    /// Reduced calls.
+    pub reduced: u64,
+    /// Rounds of both kinds of call together.
+    pub rounds: u64,
+}
+
+/// A state together with the count of the calls that were made on it.
+#[derive(Clone, Debug)]
+pub struct Sponge {
+    state: State,
+    counts: Counts,
+}
+
+impl Sponge {
+    /// The starting state: eight zero words, then BLAKE2b's initialization vector.
+    pub fn start() -> Sponge {
+        let mut state = [0; STATE_WORDS];
+        state[8..].copy_from_slice(&STARTING_WORDS);
+        let counts = Counts::default();
+        Sponge { state, counts }
+    }
+
+    /// The whole state.
+    pub fn state(&self) -> State {
+        self.state
+    }
+
+    /// The calls and rounds made so far.
+    pub fn counts(&self) -> Counts {
+        self.counts
+    }
+
+    /// The output: words 0 to 11 of the state as it stands.
+    pub fn rand(&self) -> Cell {
+        let mut rand = [0; CELL_WORDS];
+        rand.copy_from_slice(&self.state[..CELL_WORDS]);
+        rand
+    }
+
+    /// A call of twelve rounds.
+    pub fn full_call(&mut self) {
+        self.counts.full += 1;
+        self.permute(FULL_ROUNDS);
+    }
+
+    /// A call of one round.
+    pub fn reduced_call(&mut self) {
+        self.counts.reduced += 1;
+        self.permute(REDUCED_ROUNDS);
+    }
+
+    /// Absorbs a block of the padded input.
+    pub fn absorb_block(&mut self, block: &[u64; BLOCK_WORDS]) {
+        self.xor(block);
+        self.full_call();
+    }
+
+    /// Absorbs a cell, at the wider rate.
+    pub fn absorb_cell(&mut self, cell: &Cell) {
+        self.xor(cell);
+        self.full_call();
+    }
+
+    /// Duplexes a cell and returns the output.
+    pub fn duplex(&mut self, cell: &Cell) -> Cell {
+        self.xor(cell);
+        self.reduced_call();
+        self.rand()
+    }
+
+    fn xor(&mut self, words: &[u64]) {
+        for (state_word, word) in self.state.iter_mut().zip(words) {
+            *state_word ^= word;
+        }
+    }
+
+    fn permute(&mut self, rounds: u64) {
+        for _ in 0..rounds {
+            round(&mut self.state);
+            self.counts.rounds += 1;
+        }
+    }
+}

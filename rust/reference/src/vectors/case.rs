@@ -1,0 +1,181 @@
+//! A case of the vectors file: a question put to an operation, and the answer to it.
+
+use crate::input::Parameters;
+use crate::refusal::Refusal;
+use crate::sponge::{Counts, State};
+
+/// A run of bytes, given one by one or as a number of zeros.
+#[derive(Clone, Debug, PartialEq, Eq)]
+pub enum Bytes {
+    /// The bytes themselves.
+    Listed(Vec<u8>),
+    /// This many zero bytes.
+    Zeros(u64),
+}
+
+impl Bytes {
+    /// The bytes themselves.
+    pub fn to_vec(&self) -> Vec<u8> {
+        match self {
+            Bytes::Listed(bytes) => bytes.clone(),
+            Bytes::Zeros(count) => vec![0; *count as usize],
+        }
+    }
+
+    /// The number of bytes.
+    pub fn count(&self) -> u64 {
+        match self {
+            Bytes::Listed(bytes) => bytes.len() as u64,
+            Bytes::Zeros(count) => *count,
+        }
+    }
+}
+
+/// What all three deriving operations are given.
+#[derive(Clone, Debug, PartialEq, Eq)]
+pub struct Given {
+    /// The password.
+    pub password: Bytes,
+    /// The salt.
+    pub salt: Bytes,
+    /// The time cost T.
+    pub t: u64,
+    /// The number of rows R.
+    pub r: u64,
+    /// The number of columns C.
+    pub c: u64,
+    /// Words of the lent matrix.
+    pub matrix_words: u64,
+}
+
+impl Given {
+    /// The six numbers of the input, for a key of this length.
+    pub fn parameters(&self, key_len: u64) -> Parameters {
+        Parameters {
+            key_len,
+            password_len: self.password.count(),
+            salt_len: self.salt.count(),
+            t: self.t,
+            r: self.r,
+            c: self.c,
+        }
+    }
+}
+
+/// An operation and what it is given.
+#[derive(Clone, Debug, PartialEq, Eq)]
+pub enum Question {
+    /// The recorded derivation.
+    DeriveRecorded {
+        /// Its inputs and matrix.
+        given: Given,
+        /// Bytes of the lent key buffer.
+        key_len: u64,
+        /// Words of the lent record.
+        record_words: u64,
+        /// Whether the answer lists the used matrix and record word by word.
+        in_full: bool,
+    },
+    /// The plain derivation.
+    Derive {
+        /// Its inputs and matrix.
+        given: Given,
+        /// Bytes of the lent key buffer.
+        key_len: u64,
+    },
+    /// The check.
+    Check {
+        /// Its inputs and matrix.
+        given: Given,
+        /// The stored key.
+        stored: Bytes,
+    },
+    /// The cost question.
+    Cost(Parameters),
+    /// The walk question.
+    Walk {
+        /// The number of rows R.
+        r: u64,
+        /// The row asked about.
+        row0: u64,
+    },
+    /// The walk program.
+    WalkProgram {
+        /// Its whole standard input.
+        input: Vec<u8>,
+    },
+}
+
+/// What an operation answers.
+#[derive(Clone, Debug, PartialEq, Eq)]
+pub enum Answer {
+    /// The call was refused and changed nothing.
+    Refused(Refusal),
+    /// Of the recorded derivation.
+    Recorded {
+        /// The key.
+        key: Vec<u8>,
+        /// The state after the last visit.
+        state: State,
+        /// The three counts.
+        counts: Counts,
+        /// Checksum of the used matrix.
+        matrix_sum: u64,
+        /// Checksum of the used record.
+        record_sum: u64,
+        /// The used matrix and the used record, if asked for in full.
+        in_full: Option<(Vec<u64>, Vec<u64>)>,
+    },
+    /// Of the plain derivation.
+    Derived {
+        /// The key.
+        key: Vec<u8>,
+        /// The three counts.
+        counts: Counts,
+        /// Checksum of the used matrix.
+        matrix_sum: u64,
+    },
+    /// Of the check.
+    Checked {
+        /// Whether the stored key is the right one.
+        matches: bool,
+        /// The three counts.
+        counts: Counts,
+        /// Checksum of the used matrix.
+        matrix_sum: u64,
+    },
+    /// Of the cost question.
+    Cost(Counts),
+    /// Of the walk question.
+    Walk {
+        /// The row revisited in the step of row0.
+        row1: u64,
+    },
+    /// Of the walk program.
+    Output(Output),
+}
+
+/// The walk program's standard output.
+#[derive(Clone, Debug, PartialEq, Eq)]
+pub struct Output {
+    /// Its number of bytes.
+    pub len: u64,
+    /// Its checksum.
+    pub sum: u64,
+    /// The output itself, if it is short.
+    pub listed: Option<Vec<u8>>,
+}
+
+/// The longest output of the walk program that the file lists.
+pub const LISTED_OUTPUT_BYTES: u64 = 512;
+
+/// One line of the vectors file.
+#[derive(Clone, Debug, PartialEq, Eq)]
+pub struct Case {
+    /// The number of the case in its file.
+    pub number: u64,
+    /// What is asked.
+    pub question: Question,
+    /// What is answered.
+    pub answer: Answer,
+}

@@ -1,0 +1,42 @@
+//! The vectors file: its cases, its text, and the runs that hold a program against it.
+//!
+//! `vectors/README.md` at the repository's top describes the file for readers without this code.
+//! A test program of another implementation reads the file with [`read()`], implements [`Subject`]
+//! and calls [`run::check_case`] on each case.
+
+mod accepted;
+pub mod case;
+pub mod checksum;
+pub mod fields;
+mod lent;
+pub mod random;
+pub mod read;
+mod refused;
+pub mod run;
+pub mod subject;
+pub mod write;
+
+pub use case::{Answer, Bytes, Case, Given, Question};
+pub use read::{read, Problem};
+pub use subject::{Reference, Subject};
+
+/// The questions of the vectors file, in its order.
+pub fn chosen_questions() -> Vec<Question> {
+    [accepted::questions(), refused::questions()].concat()
+}
+
+/// The text of the vectors file. An error says which case the reference program failed, and how.
+pub fn chosen_text() -> Result<String, String> {
+    let mut text = String::from(write::HEADING);
+    for (number, question) in (1..).zip(chosen_questions()) {
+        let answer =
+            run::ask(&Reference, &question).map_err(|what| format!("case {number}: {what}"))?;
+        let case = Case {
+            number,
+            question,
+            answer,
+        };
+        text.push_str(&write::line(&case));
+    }
+    Ok(text)
+}

@@ -1,0 +1,202 @@
+//! Reading a vectors file: every line is a case, a comment or empty.
+
+use super::case::{Answer, Case, Given, Output, Question, LISTED_OUTPUT_BYTES};
+use super::fields::{unknown_value, Fields, Trouble};
+use crate::input::Parameters;
+use crate::refusal::Refusal;
+use crate::sponge::Counts;
+use std::fmt;
+
+/// The most words a lent buffer of the file may have; the reader has to hold them.
+pub const MOST_WORDS: u64 = 1 << 26;
+/// The longest key buffer of the file.
+pub const MOST_KEY_BYTES: u64 = 1 << 20;
+
+/// What is wrong with a vectors file, and where.
+#[derive(Clone, Debug, PartialEq, Eq)]
+pub struct Problem {
+    /// The line, counted from 1.
+    pub line: usize,
+    /// What is wrong with it.
+    pub what: String,
+}
+
+impl fmt::Display for Problem {
+    fn fmt(&self, f: &mut fmt::Formatter<'_>) -> fmt::Result {
+        write!(f, "{}: {}", self.line, self.what)
+    }
+}
+
+impl std::error::Error for Problem {}
+
+/// Reads a whole file into its cases, each with its line number.
+pub fn read(file: &[u8]) -> Result<Vec<(usize, Case)>, Problem> {
+    let mut cases: Vec<(usize, Case)> = Vec::new();
+    for (place, ended_line) in file.split_inclusive(|&byte| byte == b'\n').enumerate() {
+        let line = place + 1;
+        let at_line = |what: String| Problem { line, what };
+        let content = ended_line
+            .strip_suffix(b"\n")
+            .ok_or_else(|| at_line("the line is cut off, its newline is missing".into()))?;
+        if content.is_empty() || content.starts_with(b"#") {
+            continue;
+        }
+        let text = std::str::from_utf8(content)
+            .map_err(|_| at_line("the line has bytes that are no text".into()))?;
+        let case = read_case(text).map_err(|trouble| at_line(sentence(&trouble)))?;
+        let last = cases.last().map_or(0, |(_, case)| case.number);
+        if case.number <= last {
+            let what = format!("field case: {} does not rise above {last}", case.number);
+            return Err(at_line(what));
+        }
+        cases.push((line, case));
+    }
+    Ok(cases)
+}
+
+fn sentence(trouble: &Trouble) -> String {
+    match &trouble.field {
+        Some(field) => format!("field {field}: {}", trouble.what),
+        None => trouble.what.clone(),
+    }
+}
+
+/// Reads one line, without its newline.
+pub fn read_case(line: &str) -> Result<Case, Trouble> {
+    let mut fields = Fields::split(line)?;
+    let number = fields.number("case", 1..=u64::MAX)?;
+    let question = read_question(&mut fields)?;
+    let answer = read_answer(&mut fields, &question)?;
+    // Only the answer shows whether it was given in full.
+    let question = match (question, &answer) {
+        (
+            Question::DeriveRecorded {
+                given,
+                key_len,
+                record_words,
+                ..
+            },
+            Answer::Recorded { in_full, .. },
+        ) => Question::DeriveRecorded {
+            given,
+            key_len,
+            record_words,
+            in_full: in_full.is_some(),
+        },
+        (question, _) => question,
+    };
+    fields.end()?;
+    Ok(Case {
+        number,
+        question,
+        answer,
+    })
+}
+
+fn read_question(fields: &mut Fields) -> Result<Question, Trouble> {
+    Ok(match fields.text("op")? {
+        "derive_recorded" => Question::DeriveRecorded {
+            given: read_given(fields)?,
+            key_len: fields.number("key_len", 0..=MOST_KEY_BYTES)?,
+            record_words: fields.number("record_words", 0..=MOST_WORDS)?,
+            in_full: false,
+        },
+        "derive" => Question::Derive {
+            given: read_given(fields)?,
+            key_len: fields.number("key_len", 0..=MOST_KEY_BYTES)?,
+        },
+        "check" => Question::Check {
+            given: read_given(fields)?,
+            stored: fields.bytes("stored", "stored_zeros")?,
+        },
+        "cost" => Question::Cost(Parameters {
+            key_len: fields.any_number("key_len")?,
+            password_len: fields.any_number("password_len")?,
+            salt_len: fields.any_number("salt_len")?,
+            t: fields.any_number("T")?,
+            r: fields.any_number("R")?,
+            c: fields.any_number("C")?,
+        }),
+        "walk" => Question::Walk {
+            r: fields.any_number("R")?,
+            row0: fields.any_number("row0")?,
+        },
+        "walk_program" => Question::WalkProgram {
+            input: fields.hex("input")?,
+        },
+        other => return Err(unknown_value("op", other)),
+    })
+}
+
+fn read_given(fields: &mut Fields) -> Result<Given, Trouble> {
+    Ok(Given {
+        password: fields.bytes("password", "password_zeros")?,
+        salt: fields.bytes("salt", "salt_zeros")?,
+        t: fields.any_number("T")?,
+        r: fields.any_number("R")?,
+        c: fields.any_number("C")?,
+        matrix_words: fields.number("matrix_words", 0..=MOST_WORDS)?,
+    })
+}
+
+fn read_answer(fields: &mut Fields, question: &Question) -> Result<Answer, Trouble> {
+    // The walk program has no refusal number; its output says what it did.
+    if let Question::WalkProgram { .. } = question {
+        return read_output(fields).map(Answer::Output);
+    }
+    let number = fields.number("refusal", 0..=Refusal::ALL.len() as u64)?;
+    if let Some(refusal) = Refusal::from_number(number) {
+        return Ok(Answer::Refused(refusal));
+    }
+    Ok(match question {
+        Question::DeriveRecorded { .. } => read_recorded(fields)?,
+        Question::Derive { .. } => Answer::Derived {
+            key: fields.hex("key")?,
+            counts: read_counts(fields)?,
+            matrix_sum: fields.word("matrix_sum")?,
+        },
+        Question::Check { .. } => Answer::Checked {
+            matches: fields.either("answer", "yes", "no")?,
+            counts: read_counts(fields)?,
+            matrix_sum: fields.word("matrix_sum")?,
+        },
+        Question::Cost(_) => Answer::Cost(read_counts(fields)?),
+        Question::Walk { .. } | Question::WalkProgram { .. } => Answer::Walk {
+            row1: fields.any_number("row1")?,
+        },
+    })
+}
+
+fn read_recorded(fields: &mut Fields) -> Result<Answer, Trouble> {
+    Ok(Answer::Recorded {
+        key: fields.hex("key")?,
+        state: fields.exact_words("state")?,
+        counts: read_counts(fields)?,
+        matrix_sum: fields.word("matrix_sum")?,
+        record_sum: fields.word("record_sum")?,
+        in_full: if fields.has("matrix") || fields.has("record") {
+            Some((fields.words("matrix")?, fields.words("record")?))
+        } else {
+            None
+        },
+    })
+}
+
+fn read_counts(fields: &mut Fields) -> Result<Counts, Trouble> {
+    Ok(Counts {
+        full: fields.any_number("full")?,
+        reduced: fields.any_number("reduced")?,
+        rounds: fields.any_number("rounds")?,
+    })
+}
+
+fn read_output(fields: &mut Fields) -> Result<Output, Trouble> {
+    let len = fields.any_number("output_len")?;
+    let sum = fields.word("output_sum")?;
+    let listed = if len <= LISTED_OUTPUT_BYTES {
+        Some(fields.hex("output")?)
+    } else {
+        None
+    };
+    Ok(Output { len, sum, listed })
+}

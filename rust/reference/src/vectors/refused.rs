@@ -1,0 +1,320 @@
+//! The questions of the vectors file that are refused: each limit, and which of two refusals goes first.
+//!
+//! The contents of passwords, salts and stored keys do not matter here, so that all are zeros.
+
+use super::case::{Bytes, Given, Question};
+use crate::input::Parameters;
+
+/// The sizes of a call.
+#[derive(Clone, Copy)]
+struct Sizes {
+    key_len: u64,
+    password_len: u64,
+    salt_len: u64,
+    t: u64,
+    r: u64,
+    c: u64,
+    matrix_words: u64,
+    record_words: u64,
+}
+
+/// An accepted call whose buffers fit exactly.
+const FITTING: Sizes = Sizes {
+    key_len: 32,
+    password_len: 31,
+    salt_len: 8,
+    t: 1,
+    r: 3,
+    c: 1,
+    matrix_words: 36,
+    record_words: 12,
+};
+
+impl Sizes {
+    fn given(&self) -> Given {
+        Given {
+            password: Bytes::Zeros(self.password_len),
+            salt: Bytes::Zeros(self.salt_len),
+            t: self.t,
+            r: self.r,
+            c: self.c,
+            matrix_words: self.matrix_words,
+        }
+    }
+
+    fn recorded(&self) -> Question {
+        Question::DeriveRecorded {
+            given: self.given(),
+            key_len: self.key_len,
+            record_words: self.record_words,
+            in_full: false,
+        }
+    }
+
+    /// The operations that have this check among theirs, put to these sizes.
+    fn with_check(&self, number: u8) -> Vec<Question> {
+        let mut questions = vec![self.recorded()];
+        if number <= 7 {
+            questions.push(Question::Derive {
+                given: self.given(),
+                key_len: self.key_len,
+            });
+            questions.push(Question::Check {
+                given: self.given(),
+                stored: Bytes::Zeros(self.key_len),
+            });
+        }
+        if number <= 6 {
+            questions.push(Question::Cost(Parameters {
+                key_len: self.key_len,
+                password_len: self.password_len,
+                salt_len: self.salt_len,
+                t: self.t,
+                r: self.r,
+                c: self.c,
+            }));
+        }
+        questions
+    }
+}
+
+/// All groups, one after the other.
+pub fn questions() -> Vec<Question> {
+    [
+        single(),
+        short_buffers(),
+        largest_buffers(),
+        pairs(),
+        all_from_one_on(),
+        cost_lengths(),
+        walks(),
+        walk_programs(),
+    ]
+    .concat()
+}
+
+/// One condition at a time. Some values would pass if cut to 8, 16 or 32 bits.
+fn single() -> Vec<Question> {
+    let base = FITTING;
+    let mut calls: Vec<(u8, Sizes)> = Vec::new();
+    for key_len in [0, 1025, 1026, 1056, 65_537] {
+        calls.push((1, Sizes { key_len, ..base }));
+    }
+    for password_len in [1025, 1026, 2048, 65_536] {
+        let sizes = Sizes {
+            password_len,
+            ..base
+        };
+        calls.push((2, sizes));
+    }
+    for salt_len in [0, 1, 6, 7, 65, 66, 264, 65_544] {
+        calls.push((3, Sizes { salt_len, ..base }));
+    }
+    for t in [0, 256, 257, 1 << 16 | 1, 1 << 32 | 1, u64::MAX] {
+        calls.push((4, Sizes { t, ..base }));
+    }
+    for r in [0, 1, 2, 16_385, 1 << 16 | 3, 1 << 32 | 3, u64::MAX] {
+        calls.push((5, Sizes { r, ..base }));
+    }
+    for c in [0, 257, 1 << 16 | 1, 1 << 32 | 1, u64::MAX] {
+        calls.push((6, Sizes { c, ..base }));
+    }
+    for matrix_words in [0, 1, 12, 24, 35] {
+        let sizes = Sizes {
+            matrix_words,
+            ..base
+        };
+        calls.push((7, sizes));
+    }
+    for record_words in [0, 1, 4, 8, 11] {
+        let sizes = Sizes {
+            record_words,
+            ..base
+        };
+        calls.push((8, sizes));
+    }
+    calls
+        .iter()
+        .flat_map(|(number, sizes)| sizes.with_check(*number))
+        .collect()
+}
+
+/// Matrices and records that lack a single word, for several shapes.
+fn short_buffers() -> Vec<Question> {
+    let mut questions = Vec::new();
+    for (t, r, c) in [
+        (2, 3, 1),
+        (255, 3, 1),
+        (1, 4, 1),
+        (1, 3, 2),
+        (3, 5, 7),
+        (1, 17, 16),
+        (1, 3, 256),
+        (1, 16_384, 1),
+    ] {
+        let fitting = Sizes {
+            t,
+            r,
+            c,
+            matrix_words: 12 * r * c,
+            record_words: r * t * (2 + 2 * c),
+            ..FITTING
+        };
+        let mut sizes = fitting;
+        sizes.record_words -= 1;
+        questions.extend(sizes.with_check(8));
+        sizes.matrix_words -= 1;
+        questions.extend(sizes.with_check(7));
+        sizes.record_words += 1;
+        questions.push(sizes.recorded());
+    }
+    questions
+}
+
+/// The largest matrix, first one word short, then with a record that is.
+fn largest_buffers() -> Vec<Question> {
+    let sizes = Sizes {
+        r: 16_384,
+        c: 256,
+        matrix_words: 12 * 16_384 * 256,
+        record_words: 16_384 * 514 - 1,
+        ..FITTING
+    };
+    let one_short = Sizes {
+        matrix_words: sizes.matrix_words - 1,
+        record_words: 16_384 * 514,
+        ..sizes
+    };
+    let longest = Sizes {
+        t: 255,
+        record_words: 0,
+        ..sizes
+    };
+    vec![one_short.recorded(), sizes.recorded(), longest.recorded()]
+}
+
+/// Makes a condition hold, from below or from above its limits.
+fn make_hold(sizes: &mut Sizes, number: u8, from_above: bool) {
+    let pick = |below, above| if from_above { above } else { below };
+    match number {
+        1 => sizes.key_len = pick(0, 1025),
+        2 => sizes.password_len = 1025,
+        3 => sizes.salt_len = pick(7, 65),
+        4 => sizes.t = pick(0, u64::MAX),
+        5 => sizes.r = pick(2, u64::MAX),
+        6 => sizes.c = pick(0, u64::MAX),
+        7 => sizes.matrix_words = pick(0, 35),
+        _ => sizes.record_words = pick(0, 11),
+    }
+}
+
+/// Every two conditions at once.
+fn pairs() -> Vec<Question> {
+    let mut questions = Vec::new();
+    for first in 1..=8 {
+        for second in first + 1..=8 {
+            let mut sizes = FITTING;
+            make_hold(&mut sizes, first, second % 2 == 0);
+            make_hold(&mut sizes, second, first % 2 == 0);
+            questions.extend(sizes.with_check(second));
+        }
+    }
+    questions
+}
+
+/// A condition and every one after it.
+fn all_from_one_on() -> Vec<Question> {
+    let mut questions = Vec::new();
+    for first in 1..=8 {
+        for from_above in [false, true] {
+            let mut sizes = FITTING;
+            (first..=8).for_each(|number| make_hold(&mut sizes, number, from_above));
+            questions.extend(sizes.with_check(first));
+        }
+    }
+    questions
+}
+
+/// Lengths that no buffer has, which the cost question can still be asked about.
+fn cost_lengths() -> Vec<Question> {
+    let base = Parameters {
+        key_len: 32,
+        password_len: 31,
+        salt_len: 8,
+        t: 1,
+        r: 3,
+        c: 1,
+    };
+    let mut questions = Vec::new();
+    for key_len in [1 << 32 | 32, u64::MAX] {
+        questions.push(Parameters { key_len, ..base });
+    }
+    for password_len in [1 << 32, u64::MAX] {
+        questions.push(Parameters {
+            password_len,
+            ..base
+        });
+    }
+    for salt_len in [1 << 32 | 8, u64::MAX] {
+        questions.push(Parameters { salt_len, ..base });
+    }
+    questions.into_iter().map(Question::Cost).collect()
+}
+
+/// The walk question's two refusals, alone and together.
+fn walks() -> Vec<Question> {
+    let mut questions = Vec::new();
+    for r in [0, 1, 2, 16_385, 1 << 16 | 8, 1 << 32 | 8, u64::MAX] {
+        for row0 in [2, 3, 7, u64::MAX] {
+            questions.push(Question::Walk { r, row0 });
+        }
+    }
+    for r in [3, 4, 8, 16_384] {
+        for row0 in [0, 1, 2, r, r + 1, 1 << 32 | 3, u64::MAX] {
+            questions.push(Question::Walk { r, row0 });
+        }
+    }
+    questions
+}
+
+/// Inputs of the walk program that are outside the limits or not of its form.
+const REFUSED_INPUTS: [&[u8]; 31] = [
+    b"",
+    b"\n",
+    b"8",
+    b"8\n\n",
+    b"8\r\n",
+    b" 8\n",
+    b"8 \n",
+    b"+8\n",
+    b"-8\n",
+    b"08\n",
+    b"00008\n",
+    b"0\n",
+    b"1\n",
+    b"2\n",
+    b"16385\n",
+    b"65539\n",
+    b"99999\n",
+    b"016384\n",
+    b"100000\n",
+    b"8\n8\n",
+    b"8\n ",
+    b"\n8\n",
+    b"8\0\n",
+    b"\08\n",
+    b"0x8\n",
+    b"8.0\n",
+    b"a\n",
+    b"\xe0\xa5\xa8\n",
+    b"\xff\n",
+    b"4294967304\n",
+    b"18446744073709551624\n",
+];
+
+fn walk_programs() -> Vec<Question> {
+    let question = |input: &[u8]| Question::WalkProgram {
+        input: input.to_vec(),
+    };
+    REFUSED_INPUTS.map(question).to_vec()
+}

@@ -1,0 +1,242 @@
+//! Putting questions to a program, and comparing its answers with a file's and with one another.
+
+use super::case::{Answer, Bytes, Case, Given, Output, Question, LISTED_OUTPUT_BYTES};
+use super::fields::short;
+use super::subject::Subject;
+use super::{checksum, lent, write};
+use crate::refusal::Refusal;
+use crate::{Counts, Inputs};
+
+/// Puts a question. An error says which lent place was changed that should have kept its contents.
+pub fn ask(subject: &impl Subject, question: &Question) -> Result<Answer, String> {
+    match question {
+        Question::DeriveRecorded {
+            given,
+            key_len,
+            record_words,
+            in_full,
+        } => ask_recorded(subject, given, *key_len, *record_words, *in_full),
+        Question::Derive { given, key_len } => ask_plain(subject, given, *key_len),
+        Question::Check { given, stored } => ask_check(subject, given, stored),
+        Question::Cost(given) => Ok(subject
+            .cost(given)
+            .map_or_else(Answer::Refused, Answer::Cost)),
+        Question::Walk { r, row0 } => Ok(subject
+            .walk(*r, *row0)
+            .map_or_else(Answer::Refused, |row1| Answer::Walk { row1 })),
+        Question::WalkProgram { input } => {
+            let output = subject.walk_program(input);
+            let len = output.len() as u64;
+            let sum = checksum::of_bytes(output.iter().copied());
+            let listed = (len <= LISTED_OUTPUT_BYTES).then_some(output);
+            Ok(Answer::Output(Output { len, sum, listed }))
+        }
+    }
+}
+
+fn ask_recorded(
+    subject: &impl Subject,
+    given: &Given,
+    key_len: u64,
+    record_words: u64,
+    in_full: bool,
+) -> Result<Answer, String> {
+    let mut key = lent::key(key_len);
+    let mut matrix = lent::words(given.matrix_words);
+    let mut record = lent::words(record_words);
+    let answer = with_inputs(given, |inputs| {
+        subject.derive_recorded(inputs, &mut key, &mut matrix, &mut record)
+    });
+    let recorded = match answer {
+        Ok(recorded) => recorded,
+        Err(refusal) => {
+            lent::key_is_kept(&key)?;
+            lent::words_are_kept("matrix", &matrix, 0)?;
+            lent::words_are_kept("record", &record, 0)?;
+            return Ok(Answer::Refused(refusal));
+        }
+    };
+    let parameters = given.parameters(key_len);
+    let used_matrix = lent::used("matrix", &matrix, parameters.matrix_words())?;
+    let used_record = lent::used("record", &record, parameters.record_words())?;
+    Ok(Answer::Recorded {
+        key,
+        state: recorded.state,
+        counts: recorded.counts,
+        matrix_sum: checksum::of_words(used_matrix),
+        record_sum: checksum::of_words(used_record),
+        in_full: in_full.then(|| (used_matrix.to_vec(), used_record.to_vec())),
+    })
+}
+
+fn ask_plain(subject: &impl Subject, given: &Given, key_len: u64) -> Result<Answer, String> {
+    let mut key = lent::key(key_len);
+    let mut matrix = lent::words(given.matrix_words);
+    let answer = with_inputs(given, |inputs| {
+        subject.derive(inputs, &mut key, &mut matrix)
+    });
+    match answer {
+        Ok(counts) => Ok(Answer::Derived {
+            key,
+            counts,
+            matrix_sum: matrix_sum(given, &matrix)?,
+        }),
+        Err(refusal) => {
+            lent::key_is_kept(&key)?;
+            lent::words_are_kept("matrix", &matrix, 0)?;
+            Ok(Answer::Refused(refusal))
+        }
+    }
+}
+
+fn ask_check(subject: &impl Subject, given: &Given, stored: &Bytes) -> Result<Answer, String> {
+    let mut matrix = lent::words(given.matrix_words);
+    let answer = with_inputs(given, |inputs| {
+        subject.check(inputs, &stored.to_vec(), &mut matrix)
+    });
+    match answer {
+        Ok(checked) => Ok(Answer::Checked {
+            matches: checked.matches,
+            counts: checked.counts,
+            matrix_sum: matrix_sum(given, &matrix)?,
+        }),
+        Err(refusal) => {
+            lent::words_are_kept("matrix", &matrix, 0)?;
+            Ok(Answer::Refused(refusal))
+        }
+    }
+}
+
+fn with_inputs<A>(given: &Given, call: impl FnOnce(&Inputs) -> A) -> A {
+    call(&Inputs {
+        password: &given.password.to_vec(),
+        salt: &given.salt.to_vec(),
+        t: given.t,
+        r: given.r,
+        c: given.c,
+    })
+}
+
+fn matrix_sum(given: &Given, matrix: &[u64]) -> Result<u64, String> {
+    let words = given.parameters(0).matrix_words();
+    lent::used("matrix", matrix, words).map(checksum::of_words)
+}
+
+/// Compares two answers; an error names the first field that differs.
+pub fn compare(expected: &Answer, found: &Answer) -> Result<(), String> {
+    if expected == found {
+        return Ok(());
+    }
+    let (expected, found) = (write::answer(expected), write::answer(found));
+    let differing = expected.iter().zip(&found).find(|(x, y)| x != y);
+    Err(match differing {
+        Some(((name, x), (_, y))) => format!("field {name}: {}", difference(x, y)),
+        None => "the two answers do not have the same fields".to_string(),
+    })
+}
+
+/// Says how two values differ; of long ones, from where on.
+fn difference(expected: &str, found: &str) -> String {
+    let same = expected.bytes().zip(found.bytes());
+    let place = same.take_while(|(x, y)| x == y).count();
+    let (start, place) = if expected.len() > 40 {
+        (format!("from digit {place} on, "), place)
+    } else {
+        (String::new(), 0)
+    };
+    let (expected, found) = (short(&expected[place..]), short(&found[place..]));
+    format!("{start}{expected} is due, {found} was found")
+}
+
+/// Puts a case's question, compares the answer, and asks the other operations about the same inputs.
+pub fn check_case(subject: &impl Subject, case: &Case) -> Result<(), String> {
+    let found = ask(subject, &case.question)?;
+    compare(&case.answer, &found)?;
+    agree(subject, &case.question, &found)
+}
+
+/// Asks the operations that share a recorded derivation's inputs for what they share of its answer.
+pub fn agree(subject: &impl Subject, question: &Question, answer: &Answer) -> Result<(), String> {
+    let Question::DeriveRecorded { given, key_len, .. } = question else {
+        return Ok(());
+    };
+    match answer {
+        Answer::Recorded {
+            key,
+            counts,
+            matrix_sum,
+            ..
+        } => agree_on_key(subject, given, key, *counts, *matrix_sum),
+        Answer::Refused(refusal) => agree_on_refusal(subject, given, *key_len, *refusal),
+        _ => Err("a recorded derivation gave another operation's answer".to_string()),
+    }
+}
+
+fn agree_on_key(
+    subject: &impl Subject,
+    given: &Given,
+    key: &[u8],
+    counts: Counts,
+    matrix_sum: u64,
+) -> Result<(), String> {
+    let key_len = key.len() as u64;
+    let cost = Question::Cost(given.parameters(key_len));
+    expect(subject, &cost, &Answer::Cost(counts))?;
+    let derived = Answer::Derived {
+        key: key.to_vec(),
+        counts,
+        matrix_sum,
+    };
+    expect(subject, &derive_question(given, key_len), &derived)?;
+    let mut wrong_key = key.to_vec();
+    // The place of the wrong byte differs from case to case.
+    let place = matrix_sum % key_len.max(1);
+    if let Some(byte) = wrong_key.get_mut(place as usize) {
+        *byte ^= 0x10;
+    }
+    for (stored, matches) in [(key.to_vec(), true), (wrong_key, false)] {
+        let checked = Answer::Checked {
+            matches,
+            counts,
+            matrix_sum,
+        };
+        let check = check_question(given, Bytes::Listed(stored));
+        expect(subject, &check, &checked)?;
+    }
+    Ok(())
+}
+
+fn agree_on_refusal(
+    subject: &impl Subject,
+    given: &Given,
+    key_len: u64,
+    refusal: Refusal,
+) -> Result<(), String> {
+    let answer = Answer::Refused(refusal);
+    if refusal < Refusal::RecordWords {
+        expect(subject, &derive_question(given, key_len), &answer)?;
+        let check = check_question(given, Bytes::Zeros(key_len));
+        expect(subject, &check, &answer)?;
+    }
+    if refusal < Refusal::MatrixWords {
+        let cost = Question::Cost(given.parameters(key_len));
+        expect(subject, &cost, &answer)?;
+    }
+    Ok(())
+}
+
+fn derive_question(given: &Given, key_len: u64) -> Question {
+    let given = given.clone();
+    Question::Derive { given, key_len }
+}
+
+fn check_question(given: &Given, stored: Bytes) -> Question {
+    let given = given.clone();
+    Question::Check { given, stored }
+}
+
+fn expect(subject: &impl Subject, question: &Question, expected: &Answer) -> Result<(), String> {
+    ask(subject, question)
+        .and_then(|found| compare(expected, &found))
+        .map_err(|what| format!("{} on the same inputs: {what}", write::op(question)))
+}

@@ -1,0 +1,81 @@
+//! The program that a vectors file is held against.
+
+use crate::{Checked, Counts, Inputs, Parameters, Recorded, Refusal};
+
+/// The operations of an implementation of Lyra2, as document 01 opens them to callers.
+pub trait Subject {
+    /// The recorded derivation.
+    fn derive_recorded(
+        &self,
+        inputs: &Inputs,
+        key: &mut [u8],
+        matrix: &mut [u64],
+        record: &mut [u64],
+    ) -> Result<Recorded, Refusal>;
+
+    /// The plain derivation.
+    fn derive(
+        &self,
+        inputs: &Inputs,
+        key: &mut [u8],
+        matrix: &mut [u64],
+    ) -> Result<Counts, Refusal>;
+
+    /// The check.
+    fn check(&self, inputs: &Inputs, stored: &[u8], matrix: &mut [u64])
+        -> Result<Checked, Refusal>;
+
+    /// The cost question.
+    fn cost(&self, given: &Parameters) -> Result<Counts, Refusal>;
+
+    /// The walk question.
+    fn walk(&self, r: u64, row0: u64) -> Result<u64, Refusal>;
+
+    /// The walk program.
+    fn walk_program(&self, input: &[u8]) -> Vec<u8>;
+}
+
+/// The implementation of this crate.
+pub struct Reference;
+
+impl Subject for Reference {
+    fn derive_recorded(
+        &self,
+        inputs: &Inputs,
+        key: &mut [u8],
+        matrix: &mut [u64],
+        record: &mut [u64],
+    ) -> Result<Recorded, Refusal> {
+        crate::derive_recorded(inputs, key, matrix, record)
+    }
+
+    fn derive(
+        &self,
+        inputs: &Inputs,
+        key: &mut [u8],
+        matrix: &mut [u64],
+    ) -> Result<Counts, Refusal> {
+        crate::derive(inputs, key, matrix)
+    }
+
+    fn check(
+        &self,
+        inputs: &Inputs,
+        stored: &[u8],
+        matrix: &mut [u64],
+    ) -> Result<Checked, Refusal> {
+        crate::check(inputs, stored, matrix)
+    }
+
+    fn cost(&self, given: &Parameters) -> Result<Counts, Refusal> {
+        crate::cost(given)
+    }
+
+    fn walk(&self, r: u64, row0: u64) -> Result<u64, Refusal> {
+        crate::walk(r, row0)
+    }
+
+    fn walk_program(&self, input: &[u8]) -> Vec<u8> {
+        crate::walk_program(input)
+    }
+}

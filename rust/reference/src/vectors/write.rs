@@ -1,0 +1,169 @@
+//! Writing a case as a line of text.
+
+use super::case::{Answer, Bytes, Case, Given, Question};
+use crate::sponge::Counts;
+
+/// The first lines of the vectors file.
+pub const HEADING: &str = "\
+# Lyra2 test vectors, a case a line; README.md beside this file says how to read them.
+";
+
+/// A name and a value of a line.
+pub type Field = (&'static str, String);
+
+/// The line of a case, with its newline.
+pub fn line(case: &Case) -> String {
+    let start = vec![
+        ("case", case.number.to_string()),
+        ("op", op(&case.question).to_string()),
+    ];
+    let fields = [start, question(&case.question), answer(&case.answer)].concat();
+    let words: Vec<_> = fields.iter().map(|(n, v)| format!("{n}={v}")).collect();
+    words.join(" ") + "\n"
+}
+
+/// The name of a question's operation.
+pub fn op(question: &Question) -> &'static str {
+    match question {
+        Question::DeriveRecorded { .. } => "derive_recorded",
+        Question::Derive { .. } => "derive",
+        Question::Check { .. } => "check",
+        Question::Cost(_) => "cost",
+        Question::Walk { .. } => "walk",
+        Question::WalkProgram { .. } => "walk_program",
+    }
+}
+
+fn question(question: &Question) -> Vec<Field> {
+    match question {
+        Question::DeriveRecorded {
+            given: inputs,
+            key_len,
+            record_words,
+            ..
+        } => {
+            let key_len = vec![("key_len", key_len.to_string())];
+            let record_words = vec![("record_words", record_words.to_string())];
+            [key_len, given(inputs), record_words].concat()
+        }
+        Question::Derive {
+            given: inputs,
+            key_len,
+        } => [vec![("key_len", key_len.to_string())], given(inputs)].concat(),
+        Question::Check {
+            given: inputs,
+            stored,
+        } => [vec![bytes("stored", "stored_zeros", stored)], given(inputs)].concat(),
+        Question::Cost(parameters) => vec![
+            ("key_len", parameters.key_len.to_string()),
+            ("password_len", parameters.password_len.to_string()),
+            ("salt_len", parameters.salt_len.to_string()),
+            ("T", parameters.t.to_string()),
+            ("R", parameters.r.to_string()),
+            ("C", parameters.c.to_string()),
+        ],
+        Question::Walk { r, row0 } => vec![("R", r.to_string()), ("row0", row0.to_string())],
+        Question::WalkProgram { input } => vec![("input", hex(input))],
+    }
+}
+
+fn given(given: &Given) -> Vec<Field> {
+    vec![
+        bytes("password", "password_zeros", &given.password),
+        bytes("salt", "salt_zeros", &given.salt),
+        ("T", given.t.to_string()),
+        ("R", given.r.to_string()),
+        ("C", given.c.to_string()),
+        ("matrix_words", given.matrix_words.to_string()),
+    ]
+}
+
+/// The fields of an answer, the refusal first.
+pub fn answer(answer: &Answer) -> Vec<Field> {
+    let accepted = vec![("refusal", "0".to_string())];
+    match answer {
+        Answer::Refused(refusal) => vec![("refusal", refusal.number().to_string())],
+        Answer::Recorded { .. } => [accepted, recorded(answer)].concat(),
+        Answer::Derived {
+            key,
+            counts: spent,
+            matrix_sum,
+        } => {
+            let sum = vec![("matrix_sum", word(*matrix_sum))];
+            [accepted, vec![("key", hex(key))], counts(spent), sum].concat()
+        }
+        Answer::Checked {
+            matches,
+            counts: spent,
+            matrix_sum,
+        } => {
+            let yes_or_no = if *matches { "yes" } else { "no" };
+            let answer = vec![("answer", yes_or_no.to_string())];
+            let sum = vec![("matrix_sum", word(*matrix_sum))];
+            [accepted, answer, counts(spent), sum].concat()
+        }
+        Answer::Cost(spent) => [accepted, counts(spent)].concat(),
+        Answer::Walk { row1 } => [accepted, vec![("row1", row1.to_string())]].concat(),
+        Answer::Output(output) => {
+            let mut fields = vec![
+                ("output_len", output.len.to_string()),
+                ("output_sum", word(output.sum)),
+            ];
+            fields.extend(output.listed.iter().map(|bytes| ("output", hex(bytes))));
+            fields
+        }
+    }
+}
+
+fn recorded(answer: &Answer) -> Vec<Field> {
+    let Answer::Recorded {
+        key,
+        state,
+        counts: spent,
+        matrix_sum,
+        record_sum,
+        in_full,
+    } = answer
+    else {
+        return Vec::new();
+    };
+    let start = vec![("key", hex(key)), ("state", words(state))];
+    let sums = vec![
+        ("matrix_sum", word(*matrix_sum)),
+        ("record_sum", word(*record_sum)),
+    ];
+    let mut fields = [start, counts(spent), sums].concat();
+    if let Some((matrix, record)) = in_full {
+        fields.push(("matrix", words(matrix)));
+        fields.push(("record", words(record)));
+    }
+    fields
+}
+
+fn counts(counts: &Counts) -> Vec<Field> {
+    vec![
+        ("full", counts.full.to_string()),
+        ("reduced", counts.reduced.to_string()),
+        ("rounds", counts.rounds.to_string()),
+    ]
+}
+
+fn bytes(name: &'static str, zeros_name: &'static str, bytes: &Bytes) -> Field {
+    match bytes {
+        Bytes::Listed(bytes) => (name, hex(bytes)),
+        Bytes::Zeros(count) => (zeros_name, count.to_string()),
+    }
+}
+
+fn hex(bytes: &[u8]) -> String {
+    bytes.iter().map(|byte| format!("{byte:02x}")).collect()
+}
+
+fn word(word: u64) -> String {
+    format!("{word:016x}")
+}
+
+fn words(words: &[u64]) -> String {
+    let each: Vec<_> = words.iter().copied().map(word).collect();
+    each.join(",")
+}

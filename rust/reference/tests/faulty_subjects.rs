@@ -1,0 +1,201 @@
+//! Faulty programs, made on purpose: the run of the vectors file has to notice every fault.
+
+mod common;
+
+use lyra2_reference::vectors::{run, Case, Question, Reference, Subject};
+use lyra2_reference::{Checked, Counts, Inputs, Parameters, Recorded, Refusal};
+
+#[derive(Clone, Copy, Debug, PartialEq, Eq)]
+enum Fault {
+    Nothing,
+    KeyByte,
+    StateWord,
+    UsedMatrixWord,
+    UsedRecordWord,
+    WordPastMatrix,
+    WordPastRecord,
+    KeyOnRefusal,
+    MatrixOnRefusal,
+    RecordOnRefusal,
+    FullCount,
+    ReducedCount,
+    RoundCount,
+    PlainKey,
+    PlainMatrixKept,
+    CheckSaysYes,
+    CheckSaysNo,
+    CheckMatrixKept,
+    CostOfNoPadding,
+    EverythingRefused,
+    RefusalsSwapped,
+    WalkRow,
+    WalkEnd,
+}
+
+use Fault::*;
+
+/// The reference program with a fault put into it.
+struct Faulty(Fault);
+
+impl Faulty {
+    fn spoil_refusal<A>(&self, answer: Result<A, Refusal>) -> Result<A, Refusal> {
+        match answer {
+            Err(Refusal::SaltLength) if self.0 == RefusalsSwapped => Err(Refusal::TimeCost),
+            Ok(_) if self.0 == EverythingRefused => Err(Refusal::Rows),
+            other => other,
+        }
+    }
+
+    fn spoil_counts(&self, counts: &mut Counts) {
+        counts.full += u64::from(self.0 == FullCount);
+        counts.reduced += u64::from(self.0 == ReducedCount);
+        counts.rounds += u64::from(self.0 == RoundCount);
+    }
+}
+
+fn flip(words: &mut [u64], place: usize) {
+    if let Some(word) = words.get_mut(place) {
+        *word ^= 1;
+    }
+}
+
+impl Subject for Faulty {
+    fn derive_recorded(
+        &self,
+        inputs: &Inputs,
+        key: &mut [u8],
+        matrix: &mut [u64],
+        record: &mut [u64],
+    ) -> Result<Recorded, Refusal> {
+        let given = inputs.parameters(key.len());
+        let mut answer = Reference.derive_recorded(inputs, key, matrix, record);
+        if let Ok(recorded) = &mut answer {
+            self.spoil_counts(&mut recorded.counts);
+            match self.0 {
+                KeyByte => key[key.len() - 1] ^= 1,
+                StateWord => recorded.state[15] ^= 1,
+                UsedMatrixWord => flip(matrix, given.matrix_words() as usize - 1),
+                UsedRecordWord => flip(record, given.record_words() as usize - 1),
+                WordPastMatrix => flip(matrix, given.matrix_words() as usize),
+                WordPastRecord => flip(record, given.record_words() as usize),
+                _ => (),
+            }
+        } else {
+            match self.0 {
+                KeyOnRefusal => key.fill(0),
+                MatrixOnRefusal => matrix.fill(0),
+                RecordOnRefusal => record.fill(0),
+                _ => (),
+            }
+        }
+        self.spoil_refusal(answer)
+    }
+
+    fn derive(
+        &self,
+        inputs: &Inputs,
+        key: &mut [u8],
+        matrix: &mut [u64],
+    ) -> Result<Counts, Refusal> {
+        let before = matrix.to_vec();
+        let counts = Reference.derive(inputs, key, matrix)?;
+        match self.0 {
+            PlainKey => key[0] ^= 1,
+            PlainMatrixKept => matrix.copy_from_slice(&before),
+            _ => (),
+        }
+        Ok(counts)
+    }
+
+    fn check(
+        &self,
+        inputs: &Inputs,
+        stored: &[u8],
+        matrix: &mut [u64],
+    ) -> Result<Checked, Refusal> {
+        let before = matrix.to_vec();
+        let mut checked = Reference.check(inputs, stored, matrix)?;
+        match self.0 {
+            CheckSaysYes => checked.matches = true,
+            CheckSaysNo => checked.matches = false,
+            CheckMatrixKept => matrix.copy_from_slice(&before),
+            _ => (),
+        }
+        Ok(checked)
+    }
+
+    fn cost(&self, given: &Parameters) -> Result<Counts, Refusal> {
+        let mut counts = Reference.cost(given)?;
+        let fills = (given.password_len + given.salt_len + 24).is_multiple_of(64);
+        if self.0 == CostOfNoPadding && fills {
+            counts.full -= 1;
+            counts.rounds -= 12;
+        }
+        Ok(counts)
+    }
+
+    fn walk(&self, r: u64, row0: u64) -> Result<u64, Refusal> {
+        let row1 = Reference.walk(r, row0)?;
+        let wrong = self.0 == WalkRow && row0 == 8191;
+        Ok(row1 + u64::from(wrong))
+    }
+
+    fn walk_program(&self, input: &[u8]) -> Vec<u8> {
+        let mut output = Reference.walk_program(input);
+        if self.0 == WalkEnd && output.len() > 100_000 {
+            output.pop();
+        }
+        output
+    }
+}
+
+/// The cases with buffers small enough to be asked over and over.
+fn small_cases() -> Vec<Case> {
+    let small = |question: &Question| match question {
+        Question::DeriveRecorded { given, .. }
+        | Question::Derive { given, .. }
+        | Question::Check { given, .. } => given.matrix_words <= 2000,
+        _ => true,
+    };
+    let cases = common::cases().into_iter().map(|(_, case)| case);
+    cases.filter(|case| small(&case.question)).collect()
+}
+
+#[test]
+fn every_fault_is_noticed() {
+    let cases = small_cases();
+    for fault in [
+        KeyByte,
+        StateWord,
+        UsedMatrixWord,
+        UsedRecordWord,
+        WordPastMatrix,
+        WordPastRecord,
+        KeyOnRefusal,
+        MatrixOnRefusal,
+        RecordOnRefusal,
+        FullCount,
+        ReducedCount,
+        RoundCount,
+        PlainKey,
+        PlainMatrixKept,
+        CheckSaysYes,
+        CheckSaysNo,
+        CheckMatrixKept,
+        CostOfNoPadding,
+        EverythingRefused,
+        RefusalsSwapped,
+        WalkRow,
+        WalkEnd,
+    ] {
+        let noticed = |case: &Case| run::check_case(&Faulty(fault), case).is_err();
+        assert!(cases.iter().any(noticed), "{fault:?}");
+    }
+}
+
+#[test]
+fn no_fault_is_noticed_where_there_is_none() {
+    for case in small_cases() {
+        assert_eq!(run::check_case(&Faulty(Nothing), &case), Ok(()));
+    }
+}

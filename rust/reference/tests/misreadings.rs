@@ -1,0 +1,150 @@
+//! Misreadings of document 01, each made on purpose: the vectors file has to tell them apart.
+//!
+//! The second writing of Lyra2 has a switch for each misreading. With none switched on it has to
+//! agree with the file.
+
+mod common;
+mod second_writing;
+
+use lyra2_reference::vectors::{checksum, Answer, Question};
+use second_writing::{derive, Inputs, Misreading, Misreading::*};
+
+/// The accepted derivations of the vectors file with their answers, but for the largest.
+fn derivations_of_the_file() -> Vec<(u64, Inputs, Answer)> {
+    let mut derivations = Vec::new();
+    for (_, case) in common::cases() {
+        let (Question::DeriveRecorded { given, key_len, .. }, Answer::Recorded { .. }) =
+            (case.question, &case.answer)
+        else {
+            continue;
+        };
+        let inputs = Inputs {
+            key_len: key_len as usize,
+            password: given.password.to_vec(),
+            salt: given.salt.to_vec(),
+            t: given.t as usize,
+            r: given.r as usize,
+            c: given.c as usize,
+        };
+        if inputs.r * inputs.c * inputs.t <= 100_000 {
+            derivations.push((case.number, inputs, case.answer));
+        }
+    }
+    derivations
+}
+
+fn key(inputs: &Inputs, misreading: Misreading) -> Vec<u8> {
+    derive(inputs, misreading).key
+}
+
+/// Derivations of the file whose key the misreading gets wrong.
+fn told_apart(misreading: Misreading) -> usize {
+    let differs = |inputs: &Inputs, answer: &Answer| match answer {
+        Answer::Recorded { key: right, .. } => key(inputs, misreading) != *right,
+        _ => false,
+    };
+    derivations_of_the_file()
+        .iter()
+        .filter(|(_, inputs, answer)| differs(inputs, answer))
+        .count()
+}
+
+/// The key of the library itself.
+fn right_key(inputs: &Inputs) -> Vec<u8> {
+    let mut key = vec![0; inputs.key_len];
+    let mut matrix = vec![0; 12 * inputs.r * inputs.c];
+    let given = lyra2_reference::Inputs {
+        password: &inputs.password,
+        salt: &inputs.salt,
+        t: inputs.t as u64,
+        r: inputs.r as u64,
+        c: inputs.c as u64,
+    };
+    lyra2_reference::derive(&given, &mut key, &mut matrix).unwrap();
+    key
+}
+
+/// Password "password" and salt "saltsalt", filled up with full stops to these lengths.
+fn named(password_len: usize, r: usize, c: usize) -> Inputs {
+    let mut password = b"password".to_vec();
+    password.resize(password_len, b'.');
+    Inputs {
+        key_len: 32,
+        password,
+        salt: b"saltsalt".to_vec(),
+        t: 1,
+        r,
+        c,
+    }
+}
+
+#[test]
+fn no_misreading_agrees_with_the_whole_file() {
+    let derivations = derivations_of_the_file();
+    assert!(derivations.len() >= 1000);
+    for (number, inputs, answer) in derivations {
+        let end = derive(&inputs, Correct);
+        let Answer::Recorded {
+            key,
+            state,
+            matrix_sum,
+            record_sum,
+            in_full,
+            ..
+        } = answer
+        else {
+            continue;
+        };
+        assert_eq!(end.key, key, "case {number}");
+        assert_eq!(end.state, state, "case {number}");
+        assert_eq!(checksum::of_words(&end.matrix), matrix_sum, "case {number}");
+        assert_eq!(checksum::of_words(&end.record), record_sum, "case {number}");
+        if let Some((matrix, record)) = in_full {
+            assert_eq!(end.matrix, matrix, "case {number}");
+            assert_eq!(end.record, record, "case {number}");
+        }
+    }
+}
+
+#[test]
+fn setup_rows_written_upward() {
+    let inputs = named(8, 3, 2);
+    assert_ne!(key(&inputs, SetupUpward), right_key(&inputs));
+    assert!(told_apart(SetupUpward) >= 1000);
+}
+
+#[test]
+fn columns_kept_for_the_whole_row() {
+    let inputs = named(8, 3, 4);
+    assert_ne!(key(&inputs, ColumnsKept), right_key(&inputs));
+    assert!(told_apart(ColumnsKept) >= 1000);
+}
+
+#[test]
+fn sum_read_after_the_first_xor() {
+    let inputs = named(8, 3, 1);
+    assert_ne!(key(&inputs, SumAfterXor), right_key(&inputs));
+    assert!(told_apart(SumAfterXor) >= 1000);
+}
+
+#[test]
+fn full_block_without_padding() {
+    // 32 + 8 + 24 bytes fill one block; a byte less must give the right key even so.
+    let full = named(32, 3, 1);
+    assert_ne!(key(&full, FullBlockUnpadded), right_key(&full));
+    let one_less = named(31, 3, 1);
+    assert_eq!(key(&one_less, FullBlockUnpadded), right_key(&one_less));
+    assert!(told_apart(FullBlockUnpadded) >= 100);
+}
+
+#[test]
+fn extra_call_before_the_key() {
+    let inputs = named(8, 3, 1);
+    assert_ne!(key(&inputs, ExtraCall), right_key(&inputs));
+    assert!(told_apart(ExtraCall) >= 1000);
+}
+
+#[test]
+fn first_xor_lost_where_both_rows_are_the_same() {
+    assert!(told_apart(FirstXorLost) >= 500);
+}

@@ -1,0 +1,266 @@
+//! Bad vectors files and bad arguments: one line says what is wrong and where.
+
+use lyra2_reference::vectors::read;
+use std::path::PathBuf;
+use std::process::{Command, Output};
+
+/// A line that can be read and holds.
+const WALK: &str = "case=1 op=walk R=8 row0=5 refusal=0 row1=3";
+const COST: &str = "case=1 op=cost key_len=32 password_len=31 salt_len=8 T=1 R=3 C=1 \
+    refusal=0 full=2 reduced=6 rounds=30";
+const REFUSED: &str = "case=1 op=derive_recorded key_len=0 password= salt=0011223344556677 \
+    T=1 R=3 C=1 matrix_words=36 record_words=12 refusal=1";
+const CHECK: &str = "case=1 op=check stored=00 password_zeros=3 salt_zeros=8 \
+    T=1 R=3 C=1 matrix_words=36 refusal=0 answer=no full=2 reduced=6 rounds=30 \
+    matrix_sum=0000000000000000";
+const PROGRAM: &str = "case=1 op=walk_program input=330a \
+    output_len=0 output_sum=cbf29ce484222325 output=";
+const DERIVED: &str = "case=1 op=derive key_len=32 \
+    password=c082a4fdfff10ac23f242265b58e7cee418014e1bb656d29 \
+    salt=970d19add285c93d3e6acf7f93f5e9cc T=1 R=3 C=1 matrix_words=36 refusal=0 \
+    key=01ff1f6b8a2f3c033f24023a1d9f6f9677f2a0b272bfdc823d4d637acfbaddab \
+    full=3 reduced=6 rounds=42 matrix_sum=0f3c14690553fc4a";
+
+/// The problem that reading a line gives, which must be laid to that line.
+fn problem(line: &str) -> String {
+    let file = format!("# a comment\n\n{line}\n");
+    let problem = read(file.as_bytes()).expect_err("the line is bad");
+    assert_eq!(problem.line, 3);
+    problem.what
+}
+
+/// The same for a line in which a part is replaced.
+fn replaced(line: &str, part: &str, by: &str) -> String {
+    assert!(line.contains(part), "{part}");
+    problem(&line.replacen(part, by, 1))
+}
+
+#[test]
+fn the_lines_that_the_others_start_from_are_good() {
+    for line in [WALK, COST, REFUSED, CHECK, PROGRAM, DERIVED] {
+        assert!(read(format!("{line}\n").as_bytes()).is_ok(), "{line}");
+    }
+    assert_eq!(read(b""), Ok(Vec::new()));
+}
+
+#[test]
+fn missing_fields() {
+    assert_eq!(replaced(WALK, " row0=5", ""), "field row0: missing");
+    assert_eq!(replaced(WALK, " refusal=0", ""), "field refusal: missing");
+    assert_eq!(replaced(WALK, "case=1 ", ""), "field case: missing");
+    assert_eq!(replaced(WALK, " op=walk", ""), "field op: missing");
+    assert_eq!(replaced(COST, " rounds=30", ""), "field rounds: missing");
+    assert_eq!(
+        replaced(REFUSED, " password=", ""),
+        "field password: missing"
+    );
+    assert_eq!(replaced(CHECK, " answer=no", ""), "field answer: missing");
+    assert_eq!(replaced(PROGRAM, " output=", ""), "field output: missing");
+}
+
+#[test]
+fn fields_given_twice_or_unknown() {
+    let twice = replaced(WALK, " row0=5", " row0=5 row0=5");
+    assert_eq!(twice, "field row0: given twice");
+    let unknown = replaced(WALK, " row0=5", " row0=5 rows=5");
+    assert_eq!(unknown, "field rows: unknown in a line of this kind");
+    // An answer beside a refusal is as unknown as any other field.
+    let answered = replaced(REFUSED, " refusal=1", " refusal=1 full=2");
+    assert_eq!(answered, "field full: unknown in a line of this kind");
+    let both = replaced(CHECK, " password_zeros=3", " password_zeros=3 password=00");
+    assert_eq!(both, "field password: unknown in a line of this kind");
+    let op = replaced(WALK, "op=walk", "op=wander");
+    assert_eq!(op, "field op: 'wander' is unknown");
+}
+
+#[test]
+fn bad_numbers() {
+    let bad = ["", "x", "-1", "+1", "1.0", "0x1", "01", "1,000"];
+    for value in bad {
+        let what = replaced(WALK, "row0=5", &format!("row0={value}"));
+        let expected = format!("field row0: '{value}' is not a decimal number");
+        assert_eq!(what, expected);
+    }
+    let above = replaced(WALK, "row0=5", "row0=18446744073709551616");
+    let range = "18446744073709551616 is out of range, 0 to 18446744073709551615";
+    assert_eq!(above, format!("field row0: {range}"));
+    let refusal = replaced(WALK, "refusal=0", "refusal=10");
+    assert_eq!(refusal, "field refusal: 10 is out of range, 0 to 9");
+    let case = replaced(WALK, "case=1", "case=0");
+    assert!(case.starts_with("field case: 0 is out of range"));
+    let matrix = replaced(REFUSED, "matrix_words=36", "matrix_words=67108865");
+    assert_eq!(
+        matrix,
+        "field matrix_words: 67108865 is out of range, 0 to 67108864"
+    );
+    let zeros = replaced(CHECK, "salt_zeros=8", "salt_zeros=1048577");
+    assert_eq!(
+        zeros,
+        "field salt_zeros: 1048577 is out of range, 0 to 1048576"
+    );
+    let key = replaced(REFUSED, "key_len=0", "key_len=1048577");
+    assert_eq!(key, "field key_len: 1048577 is out of range, 0 to 1048576");
+}
+
+#[test]
+fn bad_bytes_and_words() {
+    let digit = "has something other than the digits 0-9 and a-f";
+    for value in ["0g", "0x00", "AA", "\u{e9}", "00,00"] {
+        let what = replaced(REFUSED, "password=", &format!("password={value}"));
+        assert_eq!(what, format!("field password: {digit}"), "{value}");
+    }
+    let odd = replaced(REFUSED, "password=", "password=abc");
+    assert_eq!(
+        odd,
+        "field password: has an odd number of hexadecimal digits"
+    );
+    let short = replaced(CHECK, "matrix_sum=0", "matrix_sum=");
+    assert_eq!(
+        short,
+        "field matrix_sum: '000000000000000' is not sixteen digits long"
+    );
+    let word = replaced(CHECK, "matrix_sum=0", "matrix_sum=z");
+    assert_eq!(word, format!("field matrix_sum: {digit}"));
+    let answer = replaced(CHECK, "answer=no", "answer=maybe");
+    assert_eq!(answer, "field answer: 'maybe' is neither yes nor no");
+}
+
+#[test]
+fn states_have_sixteen_words() {
+    let line = "case=1 op=derive_recorded key_len=1 password= salt_zeros=8 T=1 R=3 C=1 \
+        matrix_words=36 record_words=12 refusal=0 key=00 state=0000000000000000,0000000000000001";
+    assert_eq!(problem(line), "field state: 2 words where 16 are due");
+}
+
+#[test]
+fn bad_lines() {
+    let parts = replaced(WALK, " row0=5", " row0");
+    assert_eq!(parts, "'row0' is not of the form name=value");
+    let spaces = replaced(WALK, " row0=5", "  row0=5");
+    assert_eq!(spaces, "'' is not of the form name=value");
+    let carriage_return = problem(&format!("{WALK}\r"));
+    assert_eq!(
+        carriage_return,
+        "field row1: '3\\r' is not a decimal number"
+    );
+    let order = read(format!("{WALK}\n{WALK}\n").as_bytes()).unwrap_err();
+    assert_eq!(order.to_string(), "2: field case: 1 does not rise above 1");
+    let cut = read(format!("{WALK}\n{}", &WALK[..30]).as_bytes()).unwrap_err();
+    assert_eq!(
+        cut.to_string(),
+        "2: the line is cut off, its newline is missing"
+    );
+    let bytes = read(b"\n\xff\xfe\n").unwrap_err();
+    assert_eq!(bytes.to_string(), "2: the line has bytes that are no text");
+}
+
+fn vectors(arguments: &[&str]) -> Output {
+    Command::new(env!("CARGO_BIN_EXE_vectors"))
+        .args(arguments)
+        .output()
+        .expect("the program runs")
+}
+
+/// A file in the tests' own folder.
+fn place(name: &str) -> PathBuf {
+    PathBuf::from(env!("CARGO_TARGET_TMPDIR")).join(name)
+}
+
+/// The one line that a failing run says.
+fn complaint(arguments: &[&str]) -> String {
+    let output = vectors(arguments);
+    assert_eq!(output.status.code(), Some(1), "{arguments:?}");
+    assert!(output.stdout.is_empty());
+    let text = String::from_utf8(output.stderr).unwrap();
+    assert_eq!(text.lines().count(), 1, "{text}");
+    text.trim_end().to_string()
+}
+
+/// What `vectors check` says about a file with these contents, without the file's name.
+fn complaint_about(name: &str, contents: &str) -> String {
+    let file = place(name);
+    std::fs::write(&file, contents).unwrap();
+    let text = complaint(&["check", file.to_str().unwrap()]);
+    let start = format!("{}:", file.display());
+    text.strip_prefix(&start)
+        .expect("the file's name")
+        .to_string()
+}
+
+#[test]
+fn program_says_where_a_file_is_bad() {
+    let bad = WALK.replace("row0=5", "row0=five");
+    let expected = "2: field row0: 'five' is not a decimal number";
+    assert_eq!(complaint_about("bad.txt", &format!("#\n{bad}\n")), expected);
+    let wrong = WALK.replace("row1=3", "row1=4");
+    let expected = "1: case 1: field row1: 4 is due, 3 was found";
+    assert_eq!(
+        complaint_about("wrong.txt", &format!("{wrong}\n")),
+        expected
+    );
+    let accepted = WALK.replace("row0=5", "row0=8");
+    let expected = "1: case 1: field refusal: 0 is due, 9 was found";
+    assert_eq!(
+        complaint_about("accepted.txt", &format!("{accepted}\n")),
+        expected
+    );
+    let derived = DERIVED.replace("addab", "addac");
+    let expected = "1: case 1: field key: from digit 63 on, c is due, b was found";
+    assert_eq!(
+        complaint_about("key.txt", &format!("{derived}\n")),
+        expected
+    );
+    let sum = complaint_about("sum.txt", &format!("{CHECK}\n"));
+    assert!(sum.starts_with("1: case 1: field matrix_sum: 0000000000000000 is due, "));
+}
+
+#[test]
+fn program_says_that_a_file_holds() {
+    let file = place("good.txt");
+    std::fs::write(&file, format!("{WALK}\n")).unwrap();
+    let output = vectors(&["check", file.to_str().unwrap()]);
+    assert!(output.status.success());
+    let text = String::from_utf8(output.stdout).unwrap();
+    assert!(
+        text.ends_with(": all hold (cases: 1, refusals: 0)\n"),
+        "{text}"
+    );
+}
+
+#[test]
+fn program_names_files_that_it_cannot_open() {
+    let missing = place("no such folder").join("file.txt");
+    let missing = missing.to_str().unwrap();
+    assert!(complaint(&["check", missing]).starts_with(missing));
+    assert!(complaint(&["write", missing]).starts_with(missing));
+    let folder = env!("CARGO_TARGET_TMPDIR");
+    assert!(complaint(&["check", folder]).starts_with(folder));
+}
+
+#[test]
+fn program_refuses_bad_arguments() {
+    let calls: [&[&str]; 6] = [
+        &[],
+        &["write"],
+        &["check"],
+        &["check", "a", "b"],
+        &["random", "1"],
+        &["derive", "file"],
+    ];
+    for arguments in calls {
+        assert!(complaint(arguments).starts_with("usage: "), "{arguments:?}");
+    }
+    assert!(complaint(&["random", "x", "1"]).starts_with("SEED: \"x\" is not a number"));
+    assert!(complaint(&["random", "1", "-1"]).starts_with("COUNT: \"-1\" is not a number"));
+}
+
+#[test]
+fn random_questions_agree() {
+    for seed in ["0", "1", "18446744073709551615"] {
+        let output = vectors(&["random", seed, "1000"]);
+        let text = String::from_utf8(output.stdout).unwrap();
+        assert!(output.status.success(), "{text}");
+        assert!(text.starts_with(&format!("seed {seed}: ")), "{text}");
+        assert!(text.ends_with("questions agree\n"), "{text}");
+    }
+}

@@ -1,0 +1,151 @@
+//! The vectors file of the repository: it is what the generator writes, and it covers what it should.
+
+mod common;
+
+use lyra2_reference::vectors::{chosen_text, run, write, Answer, Question, Reference};
+use std::collections::{BTreeMap, BTreeSet};
+
+#[test]
+fn file_is_what_the_generator_writes() {
+    let written = chosen_text().unwrap();
+    let file = String::from_utf8(common::file()).unwrap();
+    for (place, (x, y)) in file.lines().zip(written.lines()).enumerate() {
+        assert_eq!(x, y, "line {}", place + 1);
+    }
+    // Compared without assert_eq, which would print both files.
+    assert!(file == written, "the files differ in length");
+}
+
+/// Whether a case lends less than a million words; the larger ones take most of the time.
+fn is_small(question: &Question) -> bool {
+    match question {
+        Question::DeriveRecorded { given, .. }
+        | Question::Derive { given, .. }
+        | Question::Check { given, .. } => given.matrix_words < 1_000_000,
+        _ => true,
+    }
+}
+
+#[test]
+fn small_cases_hold_and_the_operations_agree() {
+    let mut cases = common::cases();
+    cases.retain(|(_, case)| is_small(&case.question));
+    assert!(cases.len() > 2000);
+    for (line, case) in cases {
+        let outcome = run::check_case(&Reference, &case);
+        assert_eq!(outcome, Ok(()), "line {line}");
+    }
+}
+
+#[test]
+fn reading_and_writing_are_inverse() {
+    let file = String::from_utf8(common::file()).unwrap();
+    let lines: Vec<_> = file.lines().collect();
+    for (line, case) in common::cases() {
+        assert_eq!(write::line(&case).trim_end(), lines[line - 1]);
+    }
+}
+
+/// The values that a size takes in the accepted recorded derivations.
+fn accepted_values(size: impl Fn(&Question) -> u64) -> BTreeSet<u64> {
+    common::cases()
+        .iter()
+        .filter(|(_, case)| matches!(case.answer, Answer::Recorded { .. }))
+        .map(|(_, case)| size(&case.question))
+        .collect()
+}
+
+/// Key length, password length, salt length, T, R and C of a recorded derivation.
+fn sizes(question: &Question) -> [u64; 6] {
+    match question {
+        Question::DeriveRecorded { given, key_len, .. } => {
+            let p = given.parameters(*key_len);
+            [p.key_len, p.password_len, p.salt_len, p.t, p.r, p.c]
+        }
+        _ => [0; 6],
+    }
+}
+
+#[test]
+fn accepted_cases_cover_the_sizes() {
+    let values = |place: usize| accepted_values(|question| sizes(question)[place]);
+    let keys = values(0);
+    assert!((1..=100).all(|len| keys.contains(&len)));
+    for multiple in (96..=1024).step_by(96) {
+        assert!([multiple - 1, multiple, multiple + 1]
+            .iter()
+            .all(|len| keys.contains(len)));
+    }
+    assert!(keys.contains(&1023) && keys.contains(&1024));
+    let passwords = values(1);
+    assert!(passwords.contains(&0) && passwords.contains(&1024));
+    assert_eq!(values(2), (8..=64).collect());
+    assert_eq!(values(3), (1..=255).collect());
+    let rows = values(4);
+    assert!((3..=80).all(|r| rows.contains(&r)));
+    assert!(rows.contains(&16_383) && rows.contains(&16_384));
+    assert_eq!(values(5), (1..=256).collect());
+}
+
+#[test]
+fn accepted_cases_cover_both_sides_of_every_block_edge() {
+    let mut passwords_of_salt: BTreeMap<u64, BTreeSet<u64>> = BTreeMap::new();
+    for (_, case) in common::cases() {
+        let [_, password_len, salt_len, ..] = sizes(&case.question);
+        if let Answer::Recorded { .. } = case.answer {
+            let passwords = passwords_of_salt.entry(salt_len).or_default();
+            passwords.insert(password_len);
+        }
+    }
+    let complete = passwords_of_salt.iter().filter(|(salt_len, passwords)| {
+        let at_edge = |len: &u64| [63, 0, 1].contains(&((len + *salt_len + 24) % 64));
+        (0..=1024)
+            .filter(at_edge)
+            .all(|len| passwords.contains(&len))
+    });
+    assert!(complete.count() >= 8);
+}
+
+#[test]
+fn numbers_of_cases() {
+    let cases = common::cases();
+    let count = |wanted: &dyn Fn(&Answer) -> bool| {
+        let found = cases.iter().filter(|(_, case)| wanted(&case.answer));
+        found.count()
+    };
+    assert!(count(&|answer| matches!(answer, Answer::Recorded { .. })) >= 1000);
+    assert!(count(&|answer| matches!(answer, Answer::Refused(_))) >= 300);
+    assert!(count(&|answer| matches!(answer, Answer::Walk { .. })) >= 100);
+    assert!(count(&|answer| matches!(answer, Answer::Output(_))) >= 50);
+    assert!(count(&|answer| matches!(answer, Answer::Checked { matches: true, .. })) >= 20);
+    assert!(count(&|answer| matches!(answer, Answer::Checked { matches: false, .. })) >= 20);
+    let in_full = |answer: &Answer| {
+        matches!(
+            answer,
+            Answer::Recorded {
+                in_full: Some(_),
+                ..
+            }
+        )
+    };
+    assert!(count(&in_full) >= 10);
+}
+
+#[test]
+fn every_operation_has_each_of_its_refusals() {
+    let mut found: BTreeMap<&str, BTreeSet<u8>> = BTreeMap::new();
+    for (_, case) in common::cases() {
+        if let Answer::Refused(refusal) = case.answer {
+            let op = write::op(&case.question);
+            found.entry(op).or_default().insert(refusal.number());
+        }
+    }
+    let expected: [(&str, BTreeSet<u8>); 5] = [
+        ("derive_recorded", (1..=8).collect()),
+        ("derive", (1..=7).collect()),
+        ("check", (1..=7).collect()),
+        ("cost", (1..=6).collect()),
+        ("walk", [5, 9].into()),
+    ];
+    assert_eq!(found, expected.into());
+}
