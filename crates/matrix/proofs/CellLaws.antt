@@ -42,7 +42,7 @@ cell-part a p m e = ap₂ (λ (n k : ℕ). take n (drop k m)) (add-sub-cancel-le
 
 -- a word of an earlier cell, read while a later cell is written
 module _ (a b : ℕ) (m₀ m s words : List ℕ) (apart : a + 12 ≤ b) (fits : a + 12 ≤ length m₀)
-  (inv : m ≡ zipAt (λ (x y : ℕ). y) b m₀ words) where
+    (inv : m ≡ zipAt (λ (x y : ℕ). y) b m₀ words) where
   pub xored-word : (j : ℕ) → j < 12 → bitXor (getD m (a + j) 0) (getD s j 0) ≡ getD (xorInto (cellFrom a m₀) (rand s)) j 0
   xored-word j h =
       ap₂ bitXor

@@ -58,10 +58,13 @@ loop-less c = omega arith
 loop-again : tie.Need-loop-again Inv-loop μ-loop
 loop-again c =
     let head = c .before .before .before in
-    let start = head .before in
-    (omega arith, simp length-set (head .loop .inv .1), rw add-one
-    (zipAt-again (λ (x y : ℕ). y) _ _ _ _ _ 12 (length-zip bitXor _ _ ∙ length-cell (start .args .a) (now (start .args .m)) (omega arith)) (head .loop .inv .2) _ (omega arith)
-    (xored-word (start .args .a) (start .args .b) (now (start .args .m)) (head .loop .m) (now (start .args .s)) _ (omega arith) (omega arith) (head .loop .inv .2) (head .loop .j) (omega arith))))
+    let start = head .before in (
+      omega arith,
+      simp length-set (head .loop .inv .1),
+      rw add-one
+          (zipAt-again (λ (x y : ℕ). y) _ _ _ _ _ 12 (length-zip bitXor _ _ ∙ length-cell (start .args .a) (now (start .args .m)) (omega arith)) (head .loop .inv .2) _ (omega arith)
+          (xored-word (start .args .a) (start .args .b) (now (start .args .m)) (head .loop .m) (now (start .args .s)) _ (omega arith) (omega arith) (head .loop .inv .2) (head .loop .j) (omega arith))),
+    )
 
 same-length : tie.Need-same-length Inv-loop μ-loop
 same-length c = c .before .loop .inv .1
