@@ -1,2 +1,3 @@
 -- The laws of the order in which Setup revisits rows.
 pub mod OddSteps
+pub mod Windows
