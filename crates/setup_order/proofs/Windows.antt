@@ -79,7 +79,7 @@ abbrev next-a : Bool → ℕ → ℕ
 next-a true a = suc a
 next-a false a = a
 
-next-sqrt : (b : Bool) (a sqrt : ℕ) → sqrt ≡ 2 ^ suc a → cond b (2 * sqrt) sqrt ≡ 2 ^ suc (next-a b a)
+next-sqrt : (b : Bool) (a sqrt : ℕ) → sqrt ≡ 2 ^ suc a → cond (not b) sqrt (2 * sqrt) ≡ 2 ^ suc (next-a b a)
 next-sqrt true a sqrt h = omega (arith, pow-suc 2 (suc a))
 next-sqrt false a sqrt h = h
 

@@ -23,11 +23,12 @@ moved o =
 -- wnd doubles, stp = sqrt + gap, gap changes sign, and if gap is then −1, sqrt doubles
 unfoldable pub newWindow : Order → Order
 newWindow o =
+    let rising = not (o .rising) in
     record {
       stp = cond (o .rising) (o .sqrt + 1) (o .sqrt - 1);
       wnd = 2 * o .wnd;
-      sqrt = cond (o .rising) (2 * o .sqrt) (o .sqrt);
-      rising = not (o .rising);
+      sqrt = cond rising (o .sqrt) (2 * o .sqrt);
+      rising = rising;
       row1 = o .row1;
       prev1 = o .prev1;
     }

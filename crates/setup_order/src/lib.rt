@@ -14,6 +14,22 @@ pub struct Order {
     pub prev1: usize,
 }
 
+// sqrt + gap
+fn with_gap(sqrt: usize, rising: bool) -> usize
+    requires { ⌜ (0 < sqrt) × (sqrt ≤ 2 ^ 32) ⌝ }
+    ensures { λ r. ⌜ r ≡ cond rising (sqrt + 1) (sqrt - 1) ⌝ }
+{
+    if rising { sqrt + 1 } else { sqrt - 1 }
+}
+
+// sqrt, doubled where gap is then -1.
+fn next_sqrt(sqrt: usize, rising: bool) -> usize
+    requires { ⌜ sqrt ≤ 2 ^ 32 ⌝ }
+    ensures { λ r. ⌜ r ≡ cond rising sqrt (2 * sqrt) ⌝ }
+{
+    if rising { sqrt } else { 2 * sqrt }
+}
+
 impl Order {
     // The order of row 3.
     pub fn first() -> Order
@@ -53,22 +69,14 @@ impl Order {
         requires { ⌜ (self .wnd ≤ 2 ^ 32) × (0 < self .sqrt) × (self .sqrt ≤ 2 ^ 32) ⌝ }
         ensures { λ r. ⌜ r ≡ newWindow self ⌝ }
     {
-        let wnd = 2 * self.wnd;
-        if self.rising {
-            return Order {
-                stp: self.sqrt + 1,
-                wnd,
-                sqrt: 2 * self.sqrt,
-                rising: false,
-                row1: self.row1,
-                prev1: self.prev1,
-            };
-        }
+        let stp = with_gap(self.sqrt, self.rising);
+        let rising = !self.rising;
+        let sqrt = next_sqrt(self.sqrt, rising);
         Order {
-            stp: self.sqrt - 1,
-            wnd,
-            sqrt: self.sqrt,
-            rising: true,
+            stp,
+            wnd: 2 * self.wnd,
+            sqrt,
+            rising,
             row1: self.row1,
             prev1: self.prev1,
         }

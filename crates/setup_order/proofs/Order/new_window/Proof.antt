@@ -1,30 +1,25 @@
--- `new_window` meets its contract: the test of the gap decides its sum and the doubling. Assumes nothing.
+-- `new_window` meets its contract by those of its two numbers. Assumes nothing.
 use Rattle.setup_order.specs.SetupOrder.{newWindow}
 use borrow.Author.Needs.{needs}
 use Rattle.setup_order.proofs.Order.new_window.Statement.{statement}
 use Rattle.setup_order.proofs.Order.new_window.Tie as tie
 use Rattle.setup_order.proofs.Order.new_window.Reads as reads
 use Rattle.setup_order.proofs.Order.new_window.Lts as lts
+use Rattle.setup_order.proofs.next_sqrt.Reads as next-sqrt-reads
+use Rattle.setup_order.proofs.with_gap.Reads as with-gap-reads
 
-mul-wnd : tie.Need-mul-wnd
-mul-wnd c = search needs
+with-gap-requires : tie.Need-with-gap-requires
+with-gap-requires c κs = search needs
 
-add-t4 : tie.Need-add-t4
-add-t4 c = search needs
+next-sqrt-requires : tie.Need-next-sqrt-requires
+next-sqrt-requires c κs = search needs
 
 mul-t5 : tie.Need-mul-t5
 mul-t5 c = search needs
 
 returns : tie.Need-returns
 unfolding newWindow
-returns c = simp (c .before .before .if1 .taken)
-
-sub-t6 : tie.Need-sub-t6
-sub-t6 c = search needs
-
-returns-2 : tie.Need-returns-2
-unfolding newWindow
-returns-2 c = simp (c .before .if1 .left)
+returns c = cc
 
 pub new-window-spec : {M : Type 1} → statement M
-new-window-spec = tie.close (tie.spec mul-wnd add-t4 mul-t5 returns sub-t6 returns-2)
+new-window-spec = tie.close (tie.spec with-gap-requires next-sqrt-requires mul-t5 returns)
