@@ -69,8 +69,8 @@ impl Order {
         requires { ⌜ (self .wnd ≤ 2 ^ 32) × (0 < self .sqrt) × (self .sqrt ≤ 2 ^ 32) ⌝ }
         ensures { λ r. ⌜ r ≡ newWindow self ⌝ }
     {
-        let stp = with_gap(self.sqrt, self.rising);
         let rising = !self.rising;
+        let stp = with_gap(self.sqrt, self.rising);
         let sqrt = next_sqrt(self.sqrt, rising);
         Order {
             stp,

@@ -19,7 +19,7 @@ mul-t5 c = search needs
 
 returns : tie.Need-returns
 unfolding newWindow
-returns c = cc
+returns c = simp (c .before .before .with-gap .ensures, c .before .next-sqrt .ensures)
 
 pub new-window-spec : {M : Type 1} → statement M
 new-window-spec = tie.close (tie.spec with-gap-requires next-sqrt-requires mul-t5 returns)
