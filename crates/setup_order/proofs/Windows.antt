@@ -193,6 +193,16 @@ order-fits k h =
       sqrt-le = n .sqrt-le;
     }
 
+-- the same by the row's number, as a loop over rows steps
+pub order-next : (row0 : ℕ) → 3 ≤ row0 → order (row0 + 1 - 3) ≡ nextOrder (order (row0 - 3))
+unfolding order
+order-next row0 h =
+    let more : row0 + 1 - 3 ≡ suc (row0 - 3) = omega arith in
+    ap order more
+
+pub row-fits : (row0 : ℕ) → 3 ≤ row0 → row0 ≤ 2 ^ 32 → Fits (order (row0 - 3))
+row-fits row0 least most = order-fits (row0 - 3) (omega arith)
+
 pub row1Of-lt : (row0 : ℕ) → 3 ≤ row0 → row1Of row0 < row0
 unfolding row1Of
 row1Of-lt row0 h = omega (arith, row1-lt (row0 - 3))
