@@ -25,7 +25,7 @@ picked-requires-2 c κs = search needs
 
 returns : tie.Need-returns
 unfolding picks
-returns c = 
+returns c =
     let s = now (c .before .before .before .before .args .s) in
     (cc (getD-rand s 4 (omega arith), getD-rand s 6 (omega arith)), c .before .before .picked .ensures .1, c .picked2 .ensures .1)
 
