@@ -11,7 +11,7 @@ use Rattle.setup.proofs.first_rows.Reads as first-rows-reads
 use Rattle.setup.proofs.setup_rows.Reads as setup-rows-reads
 
 first-rows-requires : tie.Need-first-rows-requires
-first-rows-requires c κs = 
+first-rows-requires c κs =
     let a = c .before .before .before .args in
     omega (arith, rows-split (a .rows) (a .columns) (omega arith))
 
