@@ -1,9 +1,10 @@
 -- Laws of a function applied place by place: lengths, elements, one place more, and undoing. Assumes nothing.
 use mathlib.Core.Path.{_≡_, refl, sym, ap, ap₂, _∙_}
 use Prim.Native.Nat.{ℕ, zero, suc, _+_, _≤_, _<_, _^_}
-use native.Mathlib.Nat.{not-suc-le-zero, le-of-suc-le-suc, suc-inj, zero-add, suc-add}
+use native.Mathlib.Nat.{not-suc-le-zero, le-of-suc-le-suc, suc-inj, zero-add, suc-add, add-zero, add-suc}
 use native.Mathlib.Omega.{arith}
-use mathlib.Core.List.{List, [], _∷_}
+use native.Mathlib.Numerals.{add-one}
+use mathlib.Core.List.{List, [], _∷_, _++_}
 use lib.ListN.{length, getD, take, set}
 use lib.Seq.{take-all}
 use lib.Bits.{bitXor, xor-lt}
@@ -144,3 +145,30 @@ pub tabulate-words : (n : ℕ) (f : ℕ → ℕ) → ((i : ℕ) → f i < 2 ^ 64
 unfolding tabulate
 tabulate-words zero f h = none-words
 tabulate-words (suc n) f h = cons-words (f zero) (tabulate n (λ i. f (suc i))) (h zero) (tabulate-words n (λ i. f (suc i)) (λ i. h (suc i)))
+
+-- ---- words put one after another from a place on
+
+-- the first word put by itself
+put-suc : (a : ℕ) (xs : List ℕ) (v : ℕ) (ys : List ℕ) → zipAt (λ x y. y) a xs (v ∷ ys) ≡ zipAt (λ x y. y) (suc a) (set xs a v) ys
+unfolding zipAt zipInto
+put-suc zero [] v ys = refl
+put-suc zero (x ∷ xs) v ys = refl
+put-suc (suc a) [] v ys = refl
+put-suc (suc a) (x ∷ xs) v ys = ap (λ (l : List ℕ). x ∷ l) (put-suc a xs v ys)
+
+pub put-cons : (a : ℕ) (xs : List ℕ) (v : ℕ) (ys : List ℕ) → zipAt (λ x y. y) a xs (v ∷ ys) ≡ zipAt (λ x y. y) (a + 1) (set xs a v) ys
+put-cons a xs v ys = rw add-one (put-suc a xs v ys)
+
+pub put-append : (a : ℕ) (xs ys zs : List ℕ)
+    → zipAt (λ x y. y) a xs (ys ++ zs) ≡ zipAt (λ x y. y) (a + length ys) (zipAt (λ x y. y) a xs ys) zs
+put-append a xs [] zs =
+    ap₂ (λ (n : ℕ) (l : List ℕ). zipAt (λ x y. y) n l zs) (sym (add-zero a)) (sym (zipAt-none (λ x y. y) a xs))
+put-append a xs (y ∷ ys) zs =
+    put-suc a xs y (ys ++ zs) ∙ put-append (suc a) (set xs a y) ys zs
+    ∙ ap₂ (λ (n : ℕ) (l : List ℕ). zipAt (λ x y. y) n l zs) (suc-add a (length ys) ∙ sym (add-suc a (length ys))) (sym (put-suc a xs y ys))
+
+-- the last word put by itself
+pub put-snoc : (a : ℕ) (xs ys : List ℕ) (v : ℕ) → zipAt (λ x y. y) a xs (ys ++ (v ∷ [])) ≡ set (zipAt (λ x y. y) a xs ys) (a + length ys) v
+put-snoc a xs ys v =
+    put-append a xs ys (v ∷ []) ∙ put-suc (a + length ys) (zipAt (λ x y. y) a xs ys) v []
+    ∙ zipAt-none (λ x y. y) (suc (a + length ys)) (set (zipAt (λ x y. y) a xs ys) (a + length ys) v)
