@@ -15,6 +15,9 @@ pub record Walk : Type 0 where
   pub prev0 : ℕ
   pub prev1 : ℕ
 
+abbrev pub walk : Work → ℕ → ℕ → Walk
+walk w prev0 prev1 = record { done = w; prev0 = prev0; prev1 = prev1 }
+
 -- the rows that the next visit picks from the output, with those of the visit before
 unfoldable pub pickedRows : Settings → ℕ → Walk → Rows
 pickedRows S R w = record {
