@@ -11,7 +11,7 @@ use Rattle.columns.specs.Settings.{Settings, Work}
 use Rattle.columns.specs.declared.Rows.{Rows}
 use Rattle.columns.specs.declared.Picks.{Picks}
 use Rattle.columns.specs.Columns.{picks}
-use Rattle.wandering.specs.Visits.{Walk, Visit, visitColumns, wander, columnPicks, visitData, visits}
+use Rattle.wandering.specs.Visits.{Walk, walk, Visit, pickedRows, visitColumns, visit, wander, columnPicks, visitData, visits}
 use Rattle.wandering.specs.Encoding.{encodePicks, encodeVisit, encode}
 
 pub encodePicks-snoc : (ps : List Picks) (p : Picks) → encodePicks (ps ++ (p ∷ [])) ≡ encodePicks ps ++ (p .col0 .0 ∷ p .col1 .0 ∷ [])
@@ -53,3 +53,22 @@ module _ (S : Settings) (C : ℕ) (r : Rows) (w : Work) where
       ∙ ap (zipAt (λ x y. y) a xs)
       (ap (λ (q : Picks). encodePicks (columnPicks S C r n w) ++ (q .col0 .0 ∷ q .col1 .0 ∷ [])) e
       ∙ sym (encodePicks-snoc (columnPicks S C r n w) (picks S C (visitColumns S C r n w .state)))))
+
+-- ---- a whole visit
+module _ (S : Settings) (R C : ℕ) (w : Walk) (r : Rows) (e : r ≡ pickedRows S R w) where
+  pub visit-done : (d : Work) → d ≡ visitColumns S C r C (w .done) → walk d (r .row0 .0) (r .row1 .0) ≡ visit S R C w
+  unfolding visit
+  visit-done d f =
+      ap (λ (x : Work). walk x (r .row0 .0) (r .row1 .0)) f
+      ∙ ap (λ (q : Rows). walk (visitColumns S C q C (w .done)) (q .row0 .0) (q .row1 .0)) e
+
+  pub visit-noted : (a : ℕ) (xs l : List ℕ)
+      → l ≡ zipAt (λ x y. y) (a + 2) (set (set xs a (r .row0 .0)) (a + 1) (r .row1 .0)) (encodePicks (columnPicks S C r C (w .done)))
+      → l ≡ zipAt (λ x y. y) a xs (encodeVisit (visitData S R C w))
+  unfolding visitData encodeVisit
+  visit-noted a xs l f =
+      let ps = encodePicks (columnPicks S C r C (w .done)) in
+      let next : a + 2 ≡ a + 1 + 1 = omega arith in
+      f ∙ ap (λ (n : ℕ). zipAt (λ x y. y) n (set (set xs a (r .row0 .0)) (a + 1) (r .row1 .0)) ps) next
+      ∙ sym (put-cons a xs (r .row0 .0) (r .row1 .0 ∷ ps) ∙ put-cons (a + 1) (set xs a (r .row0 .0)) (r .row1 .0) ps)
+      ∙ ap (λ (q : Rows). zipAt (λ x y. y) a xs (q .row0 .0 ∷ q .row1 .0 ∷ encodePicks (columnPicks S C q C (w .done)))) e

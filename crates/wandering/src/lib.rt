@@ -6,11 +6,12 @@ use columns::visit_column;
 use matrix::Row;
 ghost use mathlib.Core.Path.{_≡_};
 ghost use Prim.Native.Nat.{_+_, _*_, _≤_, _<_, _^_};
+ghost use mathlib.Core.List.{[]};
 ghost use lib.ListN.{length, set};
 ghost use Rattle.lists.specs.Zip.{zipAt};
 ghost use Rattle.columns.specs.Bounds.{Within};
 ghost use Rattle.columns.specs.Settings.{profile, work};
-ghost use Rattle.wandering.specs.Visits.{Walk, walk, visitColumns, visit, wander, columnPicks, visitData, visits};
+ghost use Rattle.wandering.specs.Visits.{walk, pickedRows, visitColumns, visit, columnPicks, visitData};
 ghost use Rattle.wandering.specs.Encoding.{encodePicks, encodeVisit, encode};
 
 // Stores a number in the record, where the record reaches that far.
@@ -52,4 +53,48 @@ fn visit_row(
         col += 1;
     }
     calls
+}
+
+// The rows that a visit picks from the output, with those of the visit before.
+fn pick_rows(s: &[u64; 16], prev0: Row, prev1: Row, rows: usize) -> Rows
+    requires { ⌜ 0 < rows ⌝ }
+    ensures { λ r. ⌜ (r .row0 .0 < rows) × (r .row1 .0 < rows) × (r ≡ pickedRows profile rows (walk (work (now (s .entry)) []) (prev0 .0) (prev1 .0))) ⌝ }
+{
+    let row0 = Row(picked(s[0], rows));
+    let row1 = Row(picked(s[2], rows));
+    Rows {
+        row0,
+        row1,
+        prev0,
+        prev1,
+    }
+}
+
+// What a visit leaves to the next: its rows, and the reduced calls it made.
+pub struct Visited {
+    pub row0: Row,
+    pub row1: Row,
+    pub calls: u64,
+}
+
+// One visit; the record gets it from place `at` on.
+fn visit(
+    s: &mut [u64; 16],
+    m: &mut [u64],
+    prev0: Row,
+    prev1: Row,
+    rows: usize,
+    columns: usize,
+    record: &mut [u64],
+    at: usize,
+) -> Visited
+    requires { ⌜ (prev0 .0 < rows) × (prev1 .0 < rows) × (12 * (rows * columns) ≤ length (now m)) × (at + (2 + 2 * columns) < 2 ^ 64) ⌝ }
+    ensures { λ r. ⌜ (r .calls ≡ columns) × (r .row0 .0 < rows) × (r .row1 .0 < rows) × (walk (work (now (s .exit)) (now (m .exit))) (r .row0 .0) (r .row1 .0) ≡ visit profile rows columns (walk (work (now (s .entry)) (now (m .entry))) (prev0 .0) (prev1 .0))) × (now («record» .exit) ≡ zipAt (λ x y. y) at (now («record» .entry)) (encodeVisit (visitData profile rows columns (walk (work (now (s .entry)) (now (m .entry))) (prev0 .0) (prev1 .0))))) ⌝ }
+{
+    let r = pick_rows(s, prev0, prev1, rows);
+    note_pair(record, at, r.row0.0, r.row1.0);
+    let calls = visit_row(s, m, r, columns, record, at + 2);
+    let row0 = r.row0;
+    let row1 = r.row1;
+    Visited { row0, row1, calls }
 }

@@ -12,7 +12,8 @@ use Rattle.setup_order.specs.SetupOrder.{order, nextOrder, Fits}
 use Rattle.setup_order.specs.declared.Order.{Order}
 use Rattle.setup_order.proofs.Windows.{order-fits}
 use Rattle.setup.specs.Setup.{rowsWith, setupRow, setupStep, setupRows}
-use Rattle.setup.proofs.RowBounds.{row-more, row-before, earlier}
+use Rattle.columns.proofs.RowLaws.{row-more, row-before}
+use Rattle.setup.proofs.RowBounds.{earlier}
 use Rattle.setup.proofs.setup_rows.Statement.{statement}
 use Rattle.setup.proofs.setup_rows.Tie as tie
 use Rattle.setup.proofs.setup_rows.Reads as reads

@@ -62,13 +62,17 @@ loop-again c =
     let head = c .before .before .before .before .before .before .before .before .before .before in
     let a = head .before .before .before .args in
     let v = head .loop in
-    let p = visited .visit-column .ensures .0 in
-    (omega arith, omega arith, visited .visit-column .kept .1 .0 ∙ v .inv .2, noted .note-pair .kept .0 ∙ v .inv .3,
-    loop-more (visitStep profile (a .columns) (a .rows)) _ _ _ _ (v .inv .4)
-    (visited .visit-column .ensures .1 ∙ ap (λ (q : Picks). visitColumn profile (a .columns) (a .rows) (v .col) q (work (v .s) (v .m))) p),
-    noted .note-pair .ensures
-    ∙ column-noted profile (a .columns) (a .rows) _ (v .col) (a .at) _ (v .«record») (visited .visit-column .result) (v .inv .5)
-    (p ∙ ap (λ (w : Work). picks profile (a .columns) (w .state)) (v .inv .4)))
+    let p = visited .visit-column .ensures .0 in (
+      omega arith,
+      omega arith,
+      visited .visit-column .kept .1 .0 ∙ v .inv .2,
+      noted .note-pair .kept .0 ∙ v .inv .3,
+      loop-more (visitStep profile (a .columns) (a .rows)) _ _ _ _ (v .inv .4)
+          (visited .visit-column .ensures .1 ∙ ap (λ (q : Picks). visitColumn profile (a .columns) (a .rows) (v .col) q (work (v .s) (v .m))) p),
+      noted .note-pair .ensures
+          ∙ column-noted profile (a .columns) (a .rows) _ (v .col) (a .at) _ (v .«record») (visited .visit-column .result) (v .inv .5)
+          (p ∙ ap (λ (w : Work). picks profile (a .columns) (w .state)) (v .inv .4)),
+    )
 
 same-length : tie.Need-same-length Inv-loop μ-loop
 same-length c = c .before .loop .inv .2

@@ -1,0 +1,75 @@
+-- `visit` meets its contract: the rows are picked and noted, then the columns are visited. Assumes nothing.
+use mathlib.Core.Path.{_∙_, ap}
+use Prim.Native.Nat.{ℕ, _+_}
+use native.Mathlib.Omega.{arith}
+use mathlib.Core.List.{List}
+use denote.Ref.{now}
+use lib.ListN.{length}
+use Rattle.lists.specs.Zip.{zipAt}
+use Rattle.columns.specs.declared.Rows.{Rows}
+use Rattle.columns.specs.Settings.{profile, work}
+use Rattle.columns.proofs.RowLaws.{within}
+use Rattle.wandering.specs.Visits.{walk, pickedRows, columnPicks}
+use Rattle.wandering.specs.Encoding.{encodePicks}
+use Rattle.wandering.proofs.Recording.{visit-done, visit-noted}
+use borrow.Author.Needs.{needs}
+use Rattle.wandering.proofs.visit.Statement.{statement}
+use Rattle.wandering.proofs.visit.Tie as tie
+use Rattle.wandering.proofs.visit.Reads as reads
+use Rattle.wandering.proofs.visit.Lts as lts
+use Rattle.wandering.proofs.note_pair.Reads as note-pair-reads
+use Rattle.wandering.proofs.pick_rows.Reads as pick-rows-reads
+use Rattle.wandering.proofs.visit_row.Reads as visit-row-reads
+
+pick-rows-requires : tie.Need-pick-rows-requires
+pick-rows-requires c κs = search needs
+
+note-pair-requires : tie.Need-note-pair-requires
+note-pair-requires c κs = search needs
+
+add-visit-row : tie.Need-add-visit-row
+add-visit-row c = search needs
+
+visit-row-requires : tie.Need-visit-row-requires
+unfolding pickedRows
+visit-row-requires c κs =
+    let start = c .before .before .before .before .before .before .before .before .before .before .before in
+    let r = c .before .before .before .before .before .before .before .pick-rows in (
+      within (start .args .rows) (start .args .columns) (length (now (start .args .m))) (start .pre .2) (r .result) (r .ensures .0) (r .ensures .1)
+          (omega (arith, ap (λ (q : Rows). q .prev0 .0) (r .ensures .2))) (omega (arith, ap (λ (q : Rows). q .prev1 .0) (r .ensures .2))),
+      omega arith,
+    )
+
+same-length : tie.Need-same-length
+same-length c = search needs
+
+same-length-2 : tie.Need-same-length-2
+same-length-2 c = search needs
+
+returns : tie.Need-returns
+unfolding pickedRows
+returns c =
+    let start = c .before .before .before .before .before .before .before .before .before .before .before .before .before .before .before .before .before .before in
+    let r = c .before .before .before .before .before .before .before .before .before .before .before .before .before .before .pick-rows in
+    let row = c .before .before .before .before .before .before .visit-row in
+    let noted = c .before .before .before .before .before .before .before .before .before .before .before .before .note-pair in
+    let w = walk (work (now (start .args .s)) (now (start .args .m))) (start .args .prev0 .0) (start .args .prev1 .0) in (
+      row .ensures .0,
+      r .ensures .0,
+      r .ensures .1,
+      visit-done profile (start .args .rows) (start .args .columns) w (r .result) (r .ensures .2) _ (row .ensures .1),
+      visit-noted profile (start .args .rows) (start .args .columns) w (r .result) (r .ensures .2) (start .args .at) (now (start .args .«record»)) _
+          (row .ensures .2 ∙ ap (λ (l : List ℕ). zipAt (λ x y. y) (start .args .at + 2) l (encodePicks (columnPicks profile (start .args .columns) (r .result) (start .args .columns) (w .done)))) (noted .ensures)),
+    )
+
+pub visit-spec : {M : Type 1} → statement M
+visit-spec =
+    tie.close
+    (tie.spec
+    pick-rows-requires
+    note-pair-requires
+    add-visit-row
+    visit-row-requires
+    same-length
+    same-length-2
+    returns)
