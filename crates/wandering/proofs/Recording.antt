@@ -2,11 +2,13 @@
 use mathlib.Core.Path.{_≡_, refl, sym, ap, ap₂, _∙_}
 use Prim.Native.Nat.{ℕ, zero, suc, _+_, _*_}
 use native.Mathlib.Omega.{arith}
+use native.Mathlib.Nat.{zero-mul, suc-mul}
 use native.Mathlib.Numerals.{add-one}
 use mathlib.Core.List.{List, [], _∷_, _++_, append-assoc, append-nil}
 use lib.ListN.{length, set, length-append}
 use Rattle.lists.specs.Zip.{zipAt}
 use Rattle.lists.proofs.ZipLaws.{zipAt-none, put-cons, put-append}
+use Rattle.lists.proofs.LoopLaws.{loop-none, loop-more}
 use Rattle.columns.specs.Settings.{Settings, Work}
 use Rattle.columns.specs.declared.Rows.{Rows}
 use Rattle.columns.specs.declared.Picks.{Picks}
@@ -72,3 +74,42 @@ module _ (S : Settings) (R C : ℕ) (w : Walk) (r : Rows) (e : r ≡ pickedRows 
       f ∙ ap (λ (n : ℕ). zipAt (λ x y. y) n (set (set xs a (r .row0 .0)) (a + 1) (r .row1 .0)) ps) next
       ∙ sym (put-cons a xs (r .row0 .0) (r .row1 .0 ∷ ps) ∙ put-cons (a + 1) (set xs a (r .row0 .0)) (r .row1 .0) ps)
       ∙ ap (λ (q : Rows). zipAt (λ x y. y) a xs (q .row0 .0 ∷ q .row1 .0 ∷ encodePicks (columnPicks S C q C (w .done)))) e
+
+-- ---- visits one after another
+module _ (S : Settings) (R C : ℕ) (w : Walk) where
+  pub wander-none : w ≡ wander S R C 0 w
+  unfolding wander
+  wander-none = loop-none (λ k v. visit S R C v) w
+
+  pub wander-more : (n : ℕ) (before after : Walk) → before ≡ wander S R C n w → after ≡ visit S R C before → after ≡ wander S R C (n + 1) w
+  unfolding wander
+  wander-more n before after inv e = loop-more (λ k v. visit S R C v) n w before after inv e
+
+  length-visit : (v : Walk) → length (encodeVisit (visitData S R C v)) ≡ 2 + 2 * C
+  unfolding visitData encodeVisit
+  length-visit v = omega (arith, length-columns S C (pickedRows S R v) (v .done) C)
+
+  pub length-visits : (n : ℕ) → length (encode (visits S R C n w)) ≡ n * (2 + 2 * C)
+  unfolding visits encode
+  length-visits zero = sym (zero-mul (2 + 2 * C))
+  length-visits (suc n) =
+      ap length (encode-snoc (visits S R C n w) (visitData S R C (wander S R C n w)))
+      ∙ length-append (encode (visits S R C n w)) (encodeVisit (visitData S R C (wander S R C n w)))
+      ∙ ap₂ _+_ (length-visits n) (length-visit (wander S R C n w)) ∙ sym (suc-mul n (2 + 2 * C))
+
+  pub visits-none : (xs : List ℕ) → xs ≡ zipAt (λ x y. y) 0 xs (encode (visits S R C 0 w))
+  unfolding visits encode
+  visits-none xs = sym (zipAt-none (λ x y. y) 0 xs)
+
+  pub visits-more : (n at : ℕ) (xs before after : List ℕ) (v : Walk) → before ≡ zipAt (λ x y. y) 0 xs (encode (visits S R C n w))
+      → at ≡ n * (2 + 2 * C) → v ≡ wander S R C n w → after ≡ zipAt (λ x y. y) at before (encodeVisit (visitData S R C v))
+      → after ≡ zipAt (λ x y. y) 0 xs (encode (visits S R C (n + 1) w))
+  unfolding visits
+  visits-more n at xs before after v inv place e noted =
+      let vs = visits S R C n w in
+      let d = visitData S R C (wander S R C n w) in
+      let where-to : at ≡ 0 + length (encode vs) = omega (arith, length-visits n) in
+      rw (add-one n)
+      (noted ∙ ap₂ (λ (k : ℕ) (l : List ℕ). zipAt (λ x y. y) k l (encodeVisit (visitData S R C v))) where-to inv
+      ∙ ap (λ (u : Walk). zipAt (λ x y. y) (0 + length (encode vs)) (zipAt (λ x y. y) 0 xs (encode vs)) (encodeVisit (visitData S R C u))) e
+      ∙ sym (put-append 0 xs (encode vs) (encodeVisit d)) ∙ ap (zipAt (λ x y. y) 0 xs) (sym (encode-snoc vs d)))

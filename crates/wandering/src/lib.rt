@@ -8,10 +8,10 @@ ghost use mathlib.Core.Path.{_≡_};
 ghost use Prim.Native.Nat.{_+_, _*_, _≤_, _<_, _^_};
 ghost use mathlib.Core.List.{[]};
 ghost use lib.ListN.{length, set};
-ghost use Rattle.lists.specs.Zip.{zipAt};
+ghost use Rattle.lists.specs.Zip.{zipAt, putInto};
 ghost use Rattle.columns.specs.Bounds.{Within};
 ghost use Rattle.columns.specs.Settings.{profile, work};
-ghost use Rattle.wandering.specs.Visits.{walk, pickedRows, visitColumns, visit, columnPicks, visitData};
+ghost use Rattle.wandering.specs.Visits.{walk, pickedRows, visitColumns, visit, wander, columnPicks, visitData, visits};
 ghost use Rattle.wandering.specs.Encoding.{encodePicks, encodeVisit, encode};
 
 // Stores a number in the record, where the record reaches that far.
@@ -97,4 +97,38 @@ fn visit(
     let row0 = r.row0;
     let row1 = r.row1;
     Visited { row0, row1, calls }
+}
+
+// n visits, after a first one that has the given rows for its previous ones. The record gets them from its start on.
+pub fn wander(
+    s: &mut [u64; 16],
+    m: &mut [u64],
+    prev0: Row,
+    prev1: Row,
+    n: usize,
+    rows: usize,
+    columns: usize,
+    record: &mut [u64],
+) -> Visited
+    requires { ⌜ (prev0 .0 < rows) × (prev1 .0 < rows) × (12 * (rows * columns) ≤ length (now m)) × (n * (2 + 2 * columns) < 2 ^ 63) × (n * columns < 2 ^ 63) ⌝ }
+    ensures { λ r. ⌜ (r .calls ≡ n * columns) × (r .row0 .0 < rows) × (walk (work (now (s .exit)) (now (m .exit))) (r .row0 .0) (r .row1 .0) ≡ wander profile rows columns n (walk (work (now (s .entry)) (now (m .entry))) (prev0 .0) (prev1 .0))) × (now («record» .exit) ≡ putInto (now («record» .entry)) (encode (visits profile rows columns n (walk (work (now (s .entry)) (now (m .entry))) (prev0 .0) (prev1 .0))))) ⌝ }
+{
+    let mut row0 = prev0.0;
+    let mut row1 = prev1.0;
+    let mut calls: u64 = 0;
+    let mut at = 0;
+    let mut k = 0;
+    while k < n {
+        let v = visit(s, m, Row(row0), Row(row1), rows, columns, record, at);
+        row0 = v.row0.0;
+        row1 = v.row1.0;
+        calls += v.calls;
+        at += 2 + 2 * columns;
+        k += 1;
+    }
+    Visited {
+        row0: Row(row0),
+        row1: Row(row1),
+        calls,
+    }
 }
