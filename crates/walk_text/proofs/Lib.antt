@@ -1,0 +1,2 @@
+-- The laws of the walk program's text.
+pub mod Digits

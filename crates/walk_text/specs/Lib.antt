@@ -1,0 +1,3 @@
+-- The walk program as a function of bytes: what it reads, and what it writes.
+pub mod Input
+pub mod Output

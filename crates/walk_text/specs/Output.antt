@@ -1,0 +1,36 @@
+-- What the walk program writes. Bytes are in ASCII: 32 is the space, 10 is the newline.
+use Prim.Native.Nat.{ℕ, zero, suc, _+_, _-_, _/_, _%_}
+use mathlib.Core.Bool.{cond}
+use mathlib.Core.List.{List, [], _∷_, _++_}
+use lib.Dec.{ltb, eqb}
+use Rattle.refusals.specs.Checks.{first, rowsCheck}
+use Rattle.setup_order.specs.SetupOrder.{row1Of}
+use Rattle.walk_text.specs.Input.{rowsRead}
+
+-- the decimal digits of n, where most digits are enough for it
+unfoldable pub decimalUpTo : ℕ → ℕ → List ℕ
+decimalUpTo zero n = []
+decimalUpTo (suc most) n = cond (ltb n 10) [] (decimalUpTo most (n / 10)) ++ ((48 + n % 10) ∷ [])
+
+-- n is below 10 ^ suc n
+abbrev pub decimal : ℕ → List ℕ
+decimal n = decimalUpTo (suc n) n
+
+unfoldable pub line : ℕ → ℕ → List ℕ
+line row0 row1 = decimal row0 ++ (32 ∷ []) ++ decimal row1 ++ (10 ∷ [])
+
+-- a line for each of n Setup steps from row 3
+unfoldable pub stepLines : ℕ → List ℕ
+stepLines zero = []
+stepLines (suc k) = stepLines k ++ line (3 + k) (row1Of (3 + k))
+
+-- the word `refused` and the number
+unfoldable pub refusedLine : ℕ → List ℕ
+refusedLine number = (114 ∷ 101 ∷ 102 ∷ 117 ∷ 115 ∷ 101 ∷ 100 ∷ 32 ∷ []) ++ decimal number ++ (10 ∷ [])
+
+-- the whole output for an input
+unfoldable pub walkOutput : List ℕ → List ℕ
+walkOutput input =
+    let R = rowsRead input in
+    let number = first (rowsCheck R ∷ []) in
+    cond (eqb number 0) (stepLines (R - 3)) (refusedLine number)

@@ -1,0 +1,2 @@
+// What the walk program writes.
+ghost use mathlib.Core.Path.{_≡_};
