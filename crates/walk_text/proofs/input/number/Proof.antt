@@ -30,14 +30,14 @@ widened-requires : tie.Need-widened-requires Inv-loop μ-loop
 widened-requires c κs = tt
 
 returns : tie.Need-returns Inv-loop μ-loop
-returns c = 
+returns c =
     let head = c .before .before .before .before in
     let ds = now (head .before .before .args .digits) in
     let at = c .before in
     sym (below-digits ds (head .loop .i) (at .widened .result) (head .loop .v) (at .before .before .loop-test .taken) (at .widened .ensures) (c .if1 .taken)) ∙ head .loop .inv .2
 
 returns-2 : tie.Need-returns-2 Inv-loop μ-loop
-returns-2 c = 
+returns-2 c =
     let head = c .before .before .before .before .before in
     let ds = now (head .before .before .args .digits) in
     let at = c .before .before in
@@ -56,11 +56,10 @@ loop-less : tie.Need-loop-less Inv-loop μ-loop
 loop-less c = omega arith
 
 loop-again : tie.Need-loop-again Inv-loop μ-loop
-loop-again c = 
+loop-again c =
     let head = c .before .before .before .before .before in
     let ds = now (head .before .before .args .digits) in
-    let at = c .before .before in
-    (
+    let at = c .before .before in (
       omega arith,
       rw add-one (one-place-more (head .loop .v) (head .loop .i) (at .widened .result - 48) (head .loop .inv .1) (omega arith)),
       rw add-one (sym (a-digit ds (head .loop .i) (at .widened .result) (head .loop .v) (at .before .before .loop-test .taken) (at .widened .ensures) (omega arith) (omega arith)) ∙ head .loop .inv .2),
@@ -68,7 +67,7 @@ loop-again c =
 
 returns-3 : tie.Need-returns-3 Inv-loop μ-loop
 unfolding numberFrom
-returns-3 c = 
+returns-3 c =
     let ds = now (c .before .before .before .args .digits) in
     ap (numberFrom (c .before .loop .v)) (sym (drop-of-length-le ds {i = c .before .loop .i} (omega arith))) ∙ c .before .loop .inv .2
 

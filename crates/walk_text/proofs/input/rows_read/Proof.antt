@@ -15,7 +15,7 @@ use Rattle.walk_text.proofs.input.number.Reads as number-reads
 
 returns : tie.Need-returns
 unfolding rowsRead
-returns c = 
+returns c =
     let s = now (c .before .before .args .input) in
     let n = length s - 1 in
     simp (lt-leb 1 n (omega arith))
@@ -25,7 +25,7 @@ sub-n c = search needs
 
 returns-2 : tie.Need-returns-2
 unfolding rowsRead
-returns-2 c = 
+returns-2 c =
     let s = now (c .before .before .before .args .input) in
     let n = length s - 1 in
     simp (le-leb 1 n (omega arith), lt-leb n 5 (omega arith))
@@ -35,7 +35,7 @@ shared-slice-read-if3 c = search needs
 
 returns-3 : tie.Need-returns-3
 unfolding rowsRead
-returns-3 c = 
+returns-3 c =
     let s = now (c .before .before .before .before .before .args .input) in
     let n = length s - 1 in
     simp (le-leb 1 n (omega arith), le-leb n 5 (omega arith), eq-eqb _ _ (c .if3 .taken))
@@ -45,7 +45,7 @@ shared-slice-read-if4 c = search needs
 
 returns-4 : tie.Need-returns-4
 unfolding rowsRead
-returns-4 c = 
+returns-4 c =
     let s = now (c .before .before .before .before .before .before .before .args .input) in
     let n = length s - 1 in
     simp (le-leb 1 n (omega arith), le-leb n 5 (omega arith), ne-eqb _ _ (c .before .before .if3 .left), ne-eqb _ _ (c .if4 .taken))
@@ -58,7 +58,7 @@ number-requires c κs = simp length-take (omega arith)
 
 returns-5 : tie.Need-returns-5
 unfolding rowsRead
-returns-5 c = 
+returns-5 c =
     let s = now (c .before .before .before .before .before .before .before .before .before .args .input) in
     let n = length s - 1 in
     c .number .ensures ∙ sym (simp (le-leb 1 n (omega arith), le-leb n 5 (omega arith), ne-eqb _ _ (c .before .before .before .before .if3 .left), eq-eqb _ _ (c .before .before .if4 .left)))
