@@ -28,6 +28,10 @@ stepLines (suc k) = stepLines k ++ line (3 + k) (row1Of (3 + k))
 unfoldable pub refusedLine : ℕ → List ℕ
 refusedLine number = (114 ∷ 101 ∷ 102 ∷ 117 ∷ 115 ∷ 101 ∷ 100 ∷ 32 ∷ []) ++ decimal number ++ (10 ∷ [])
 
+-- room for the longest output: two numbers of at most five digits, a space and a newline for each row
+abbrev pub outputBytes : ℕ
+outputBytes = 196608
+
 -- the whole output for an input
 unfoldable pub walkOutput : List ℕ → List ℕ
 walkOutput input =

@@ -5,10 +5,10 @@ ghost use Prim.Native.Nat.{_+_, _-_, _≤_, _<_};
 ghost use lib.ListN.{length, take};
 ghost use Rattle.io.specs.Counts.{Counts};
 ghost use Rattle.walk_text.specs.Appended.{Appended};
-ghost use Rattle.walk_text.specs.Output.{decimal, line, stepLines, refusedLine, walkOutput};
+ghost use Rattle.walk_text.specs.Output.{decimal, line, stepLines, refusedLine, outputBytes, walkOutput};
 use setup_order::Order;
 
-// A line has two numbers of at most five digits, a space and a newline, and there are fewer than 16,384 lines.
+// Room for the longest output: at most twelve bytes for each of 16,384 rows.
 pub const OUTPUT_BYTES: usize = 196608;
 
 fn append(out: &mut [u8], at: usize, text: &[u8]) -> usize
@@ -46,7 +46,7 @@ fn append_line(out: &mut [u8], at: usize, row0: usize, row1: usize) -> usize
 
 // The lines of the Setup steps of a matrix of `rows` rows.
 fn put_steps(out: &mut [u8], rows: usize) -> usize
-    requires { ⌜ (3 ≤ rows) × (rows ≤ 16384) × (196608 ≤ length (now out)) ⌝ }
+    requires { ⌜ (3 ≤ rows) × (rows ≤ 16384) × (outputBytes ≤ length (now out)) ⌝ }
     ensures { λ r. ⌜ Appended (now (out .entry)) (now (out .exit)) 0 (stepLines (rows - 3)) r ⌝ }
 {
     let mut order = Order::first();
@@ -61,7 +61,7 @@ fn put_steps(out: &mut [u8], rows: usize) -> usize
 }
 
 fn put_refused(out: &mut [u8], number: u32) -> usize
-    requires { ⌜ (number < 100000) × (196608 ≤ length (now out)) ⌝ }
+    requires { ⌜ (number < 100000) × (outputBytes ≤ length (now out)) ⌝ }
     ensures { λ r. ⌜ Appended (now (out .entry)) (now (out .exit)) 0 (refusedLine number) r ⌝ }
 {
     let word = append(out, 0, b"refused ");
@@ -71,7 +71,7 @@ fn put_refused(out: &mut [u8], number: u32) -> usize
 
 // The whole output of the walk program at the start of out, for the whole of its input.
 pub fn walk_output(input: &[u8], out: &mut [u8]) -> usize
-    requires { ⌜ 196608 ≤ length (now out) ⌝ }
+    requires { ⌜ outputBytes ≤ length (now out) ⌝ }
     ensures { λ r. ⌜ Counts r (now (out .exit)) ⌝ }
     ensures { λ r. ⌜ take r (now (out .exit)) ≡ walkOutput (now (input .entry)) ⌝ }
 {
