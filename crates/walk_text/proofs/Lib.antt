@@ -3,3 +3,4 @@ pub mod Digits
 pub mod Appending
 pub mod DecimalText
 pub mod Lines
+pub mod Cases

@@ -1,11 +1,11 @@
 -- R as standard input gives it. Bytes are in ASCII: 48 to 57 are the digits, 10 is the newline.
 use Prim.Native.Nat.{ℕ, _+_, _-_, _*_}
-use mathlib.Core.Bool.{Bool, cond, not, _&&_}
+use mathlib.Core.Bool.{cond, not, _&&_}
 use mathlib.Core.List.{List, [], _∷_}
 use lib.Dec.{leb, eqb}
 use lib.ListN.{length, getD, take}
 
--- the number that the digits v and then bytes stand for, 0 where one of the bytes is no digit
+-- the number whose digits are those of v and then these, 0 where one of these is no digit
 unfoldable pub numberFrom : ℕ → List ℕ → ℕ
 numberFrom v [] = v
 numberFrom v (b ∷ bs) = cond (leb 48 b && leb b 57) (numberFrom (v * 10 + (b - 48)) bs) 0

@@ -7,19 +7,20 @@ use Rattle.refusals.specs.Checks.{first, rowsCheck}
 use Rattle.setup_order.specs.SetupOrder.{row1Of}
 use Rattle.walk_text.specs.Input.{rowsRead}
 
--- the decimal digits of n, where most digits are enough for it
+-- the decimal digits of n, where `most` digits are enough for it
 unfoldable pub decimalUpTo : ℕ → ℕ → List ℕ
 decimalUpTo zero n = []
 decimalUpTo (suc most) n = cond (ltb n 10) [] (decimalUpTo most (n / 10)) ++ ((48 + n % 10) ∷ [])
 
--- n is below 10 ^ suc n
+-- n has at most suc n digits
 abbrev pub decimal : ℕ → List ℕ
 decimal n = decimalUpTo (suc n) n
 
+-- row0, a space, row1, a newline
 unfoldable pub line : ℕ → ℕ → List ℕ
 line row0 row1 = decimal row0 ++ (32 ∷ []) ++ decimal row1 ++ (10 ∷ [])
 
--- a line for each of n Setup steps from row 3
+-- the lines of the first k Setup steps, from row 3
 unfoldable pub stepLines : ℕ → List ℕ
 stepLines zero = []
 stepLines (suc k) = stepLines k ++ line (3 + k) (row1Of (3 + k))

@@ -2,6 +2,5 @@
 mod input;
 mod output;
 
-pub use input::rows_read;
 pub use output::OUTPUT_BYTES;
 pub use output::walk_output;

@@ -1,11 +1,11 @@
 // What the walk program writes, put into a lent buffer. Each function answers where its text ends.
 ghost use mathlib.Core.Path.{_≡_};
-ghost use mathlib.Core.List.{_++_};
 ghost use Prim.Native.Nat.{_+_, _-_, _≤_, _<_};
 ghost use lib.ListN.{length, take};
 ghost use Rattle.io.specs.Counts.{Counts};
 ghost use Rattle.walk_text.specs.Appended.{Appended};
 ghost use Rattle.walk_text.specs.Output.{decimal, line, stepLines, refusedLine, outputBytes, walkOutput};
+use crate::input::rows_read;
 use setup_order::Order;
 
 // Room for the longest output: at most twelve bytes for each of 16,384 rows.
@@ -39,8 +39,8 @@ fn append_line(out: &mut [u8], at: usize, row0: usize, row1: usize) -> usize
     ensures { λ r. ⌜ r ≤ at + 12 ⌝ }
 {
     let first = append_decimal(out, at, row0);
-    let gap = append(out, first, b" ");
-    let second = append_decimal(out, gap, row1);
+    let space = append(out, first, b" ");
+    let second = append_decimal(out, space, row1);
     append(out, second, b"\n")
 }
 
@@ -75,7 +75,7 @@ pub fn walk_output(input: &[u8], out: &mut [u8]) -> usize
     ensures { λ r. ⌜ Counts r (now (out .exit)) ⌝ }
     ensures { λ r. ⌜ take r (now (out .exit)) ≡ walkOutput (now (input .entry)) ⌝ }
 {
-    let rows = crate::rows_read(input);
+    let rows = rows_read(input);
     let number = refusals::rows_refusal(rows);
     if number != 0 {
         return put_refused(out, number);

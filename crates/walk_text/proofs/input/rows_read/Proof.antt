@@ -1,9 +1,9 @@
 -- `rows_read` meets its contract: each test of the code is one of the definition. Assumes nothing.
-use mathlib.Core.Path.{_≡_, sym, _∙_}
+use mathlib.Core.Path.{sym, _∙_}
 use Prim.Native.Nat.{_-_}
 use native.Mathlib.Omega.{arith}
 use denote.Ref.{now}
-use lib.ListN.{length, length-take}
+use lib.ListN.{length, getD, length-take}
 use borrow.Author.Tests.{le-leb, lt-leb, eq-eqb, ne-eqb}
 use Rattle.walk_text.specs.Input.{rowsRead}
 use borrow.Author.Needs.{needs}
@@ -48,7 +48,7 @@ unfolding rowsRead
 returns-4 c =
     let s = now (c .before .before .before .before .before .before .before .args .input) in
     let n = length s - 1 in
-    simp (le-leb 1 n (omega arith), le-leb n 5 (omega arith), ne-eqb _ _ (c .before .before .if3 .left), ne-eqb _ _ (c .if4 .taken))
+    simp (le-leb 1 n (omega arith), le-leb n 5 (omega arith), ne-eqb _ _ (c .before .before .if3 .left), ne-eqb (getD s n 0) 10 (λ e. omega arith))
 
 slice-aggregate-number : tie.Need-slice-aggregate-number
 slice-aggregate-number c = simp length-take (omega arith)
@@ -61,7 +61,7 @@ unfolding rowsRead
 returns-5 c =
     let s = now (c .before .before .before .before .before .before .before .before .before .args .input) in
     let n = length s - 1 in
-    c .number .ensures ∙ sym (simp (le-leb 1 n (omega arith), le-leb n 5 (omega arith), ne-eqb _ _ (c .before .before .before .before .if3 .left), eq-eqb _ _ (c .before .before .if4 .left)))
+    c .number .ensures ∙ sym (simp (le-leb 1 n (omega arith), le-leb n 5 (omega arith), ne-eqb _ _ (c .before .before .before .before .if3 .left), eq-eqb (getD s n 0) 10 (omega arith)))
 
 pub rows-read-spec : {M : Type 1} → statement M
 rows-read-spec =

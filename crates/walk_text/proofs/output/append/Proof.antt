@@ -1,12 +1,10 @@
 -- `append` meets its contract. The loop's invariant: the first i bytes of the text are put. Assumes nothing.
-use mathlib.Core.Path.{_≡_, refl, sym, ap, subst, _∙_}
-use mathlib.Core.List.{List}
-use Prim.Native.Nat.{ℕ, _≤_, _+_, _-_}
+use mathlib.Core.Path.{_≡_, refl}
+use Prim.Native.Nat.{_≤_, _+_, _-_}
 use native.Mathlib.Omega.{arith}
 use native.Mathlib.Numerals.{add-one}
 use denote.Ref.{now}
 use lib.ListN.{length, take}
-use lib.Seq.{take-all}
 use Rattle.walk_text.specs.Appended.{Appended}
 use Rattle.walk_text.proofs.Appending.{nothing, one-more, whole}
 use Rattle.walk_text.proofs.output.append.Statement.{statement}

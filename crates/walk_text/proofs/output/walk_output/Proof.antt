@@ -1,5 +1,5 @@
 -- `walk_output` meets its contract: the check of R decides between the two forms of the output. Assumes nothing.
-use mathlib.Core.Path.{_≡_, sym, _∙_}
+use mathlib.Core.Path.{sym, _∙_}
 use native.Mathlib.Omega.{arith}
 use Rattle.walk_text.proofs.Appending.{counted}
 use Rattle.walk_text.proofs.Lines.{rows-number, rows-limits, refused-output, steps-output}
