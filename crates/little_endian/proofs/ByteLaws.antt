@@ -1,14 +1,14 @@
 -- Laws of numbers as bytes: their range, their elements, and that the two directions undo each other. Assumes nothing.
 use mathlib.Core.Path.{_≡_, refl, sym, ap, ap₂, _∙_, subst}
 use Prim.Native.Nat.{ℕ, zero, suc, _+_, _*_, _/_, _%_, _^_, _≤_, _<_}
-use native.Mathlib.Nat.{not-suc-le-zero, le-of-suc-le-suc, pow-suc, lt-of-lt-of-le}
+use native.Mathlib.Nat.{not-suc-le-zero, le-of-suc-le-suc, pow-suc, lt-of-lt-of-le, mul-suc, mul-zero}
 use native.Mathlib.Omega.{arith}
-use mathlib.Core.List.{List, [], _∷_}
-use lib.ListN.{length, getD, take, drop, length-take, length-drop, drop-of-length-le}
-use lib.Seq.{getD-take, getD-drop, drop-cons, drop-drop}
+use mathlib.Core.List.{List, [], _∷_, _++_}
+use lib.ListN.{length, getD, take, drop, length-append, length-take, length-drop, drop-of-length-le, List·getD-append}
+use lib.Seq.{getD-take, getD-drop, getD-append-add, drop-cons, drop-drop}
 use lib.Pow.{pow-add, pow-mono, shr-shr}
 use lib.Arith.{digits-lt, digits-div, digits-mod}
-use Rattle.little_endian.specs.Bytes.{leValue, leBytes, leWords}
+use Rattle.little_endian.specs.Bytes.{leValue, leBytes, leEach, leWords}
 
 -- every element is a byte
 abbrev pub AllBytes : List ℕ → Type 0
@@ -34,6 +34,45 @@ pub length-bytes : (n x : ℕ) → length (leBytes n x) ≡ n
 unfolding leBytes
 length-bytes zero x = refl
 length-bytes (suc n) x = ap suc (length-bytes n (x / 256))
+
+-- a byte does not depend on how many are taken
+pub byte-width : (m n x k : ℕ) → k < m → k < n → getD (leBytes m x) k 0 ≡ getD (leBytes n x) k 0
+byte-width m n x k hm hn = getD-bytes m x k hm ∙ sym (getD-bytes n x k hn)
+
+pub length-each : (n : ℕ) (xs : List ℕ) → length (leEach n xs) ≡ n * length xs
+unfolding leEach
+length-each n [] = sym (mul-zero n)
+length-each n (x ∷ xs) = omega (arith, length-append (leBytes n x) (leEach n xs), length-bytes n x, length-each n xs, mul-suc n (length xs))
+
+-- byte r of number q
+pub getD-each : (n : ℕ) (xs : List ℕ) (q r : ℕ) → q < length xs → r < n → getD (leEach n xs) (n * q + r) 0 ≡ getD (leBytes n (getD xs q 0)) r 0
+unfolding leEach
+getD-each n [] q r hq hr = absurd (not-suc-le-zero hq)
+getD-each n (x ∷ xs) zero r hq hr =
+    let here : n * zero + r ≡ r = omega (arith, mul-zero n) in
+    ap (λ (k : ℕ). getD (leBytes n x ++ leEach n xs) k 0) here
+    ∙ List·getD-append (leBytes n x) (leEach n xs) 0 r (omega (arith, length-bytes n x))
+getD-each n (x ∷ xs) (suc q) r hq hr =
+    let next : n * suc q + r ≡ length (leBytes n x) + (n * q + r) = omega (arith, mul-suc n q, length-bytes n x) in
+    ap (λ (k : ℕ). getD (leBytes n x ++ leEach n xs) k 0) next
+    ∙ getD-append-add (leBytes n x) (leEach n xs) (n * q + r) 0
+    ∙ getD-each n xs q r (le-of-suc-le-suc hq) hr
+
+pub append-bytes : (a b : List ℕ) → AllBytes a → AllBytes b → AllBytes (a ++ b)
+append-bytes [] b ha hb i = hb i
+append-bytes (x ∷ a) b ha hb zero = ha zero
+append-bytes (x ∷ a) b ha hb (suc i) = append-bytes a b (λ j. ha (suc j)) hb i
+
+low-bytes : (n x : ℕ) → AllBytes (leBytes n x)
+unfolding leBytes
+low-bytes zero x i = omega arith
+low-bytes (suc n) x zero = omega arith
+low-bytes (suc n) x (suc i) = low-bytes n (x / 256) i
+
+pub each-bytes : (n : ℕ) (xs : List ℕ) → AllBytes (leEach n xs)
+unfolding leEach
+each-bytes n [] i = omega arith
+each-bytes n (x ∷ xs) i = append-bytes (leBytes n x) (leEach n xs) (low-bytes n x) (each-bytes n xs) i
 
 pub bytes-value : (l : List ℕ) → AllBytes l → leBytes (length l) (leValue l) ≡ l
 unfolding leBytes leValue

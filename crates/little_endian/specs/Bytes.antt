@@ -1,6 +1,6 @@
 -- Numbers stored as bytes, the lowest byte first.
 use Prim.Native.Nat.{ℕ, zero, suc, _+_, _*_, _/_, _%_}
-use mathlib.Core.List.{List, [], _∷_}
+use mathlib.Core.List.{List, [], _∷_, _++_}
 use lib.ListN.{take, drop}
 
 -- the number that bytes stand for
@@ -12,6 +12,11 @@ leValue (b ∷ bs) = leValue bs * 256 + b
 unfoldable pub leBytes : ℕ → ℕ → List ℕ
 leBytes zero x = []
 leBytes (suc n) x = x % 256 ∷ leBytes n (x / 256)
+
+-- the numbers of a list, n bytes each
+unfoldable pub leEach : ℕ → List ℕ → List ℕ
+leEach n [] = []
+leEach n (x ∷ xs) = leBytes n x ++ leEach n xs
 
 -- the first n words of a list of bytes
 unfoldable pub leWords : ℕ → List ℕ → List ℕ

@@ -1,0 +1,100 @@
+-- `fill_block` meets its contract. The loop's invariant: the first i words are in place. Assumes nothing.
+use mathlib.Core.Path.{_≡_, refl, sym, ap, _∙_}
+use Prim.Native.Nat.{ℕ, _≤_, _-_, _+_, _*_}
+use native.Mathlib.Omega.{arith}
+use native.Mathlib.Numerals.{add-one}
+use mathlib.Core.List.{List}
+use lib.ListN.{length, take, drop, length-set}
+use lib.Seq.{drop-drop}
+use denote.Ref.{now}
+use Rattle.lists.specs.Zip.{putInto}
+use Rattle.lists.proofs.ZipLaws.{zip-none, zip-again, zip-end, put-all}
+use Rattle.little_endian.specs.Bytes.{leValue}
+use Rattle.little_endian.proofs.ByteLaws.{length-words, getD-words}
+use Rattle.input.specs.Input.{padded, blocks, block}
+use Rattle.input.proofs.fill_block.Statement.{statement}
+use Rattle.input.proofs.fill_block.Tie as tie
+use Rattle.input.proofs.fill_block.Reads as reads
+use Rattle.input.proofs.fill_block.Lts as lts
+use Rattle.input.proofs.input_word.Reads as input-word-reads
+
+abbrev Inv-loop : tie.InvT-loop
+Inv-loop words₀ password salt numbers b i₀ words i = (i ≤ 8) × (length words ≡ 8) × (words ≡ putInto words₀ (take i (block (padded password salt numbers) b)))
+
+abbrev μ-loop : tie.MeasureT-loop
+μ-loop words₀ password salt numbers b i₀ words i = 8 - i
+
+loop-holds : tie.Need-loop-holds Inv-loop μ-loop
+loop-holds c = (omega arith, omega arith, sym (zip-none _ _))
+
+mul-input-word : tie.Need-mul-input-word Inv-loop μ-loop
+unfolding blocks
+mul-input-word c = omega arith
+
+mul-input-word-2 : tie.Need-mul-input-word-2 Inv-loop μ-loop
+mul-input-word-2 c = omega arith
+
+add-input-word : tie.Need-add-input-word Inv-loop μ-loop
+unfolding blocks
+add-input-word c = omega arith
+
+input-word-requires : tie.Need-input-word-requires Inv-loop μ-loop
+input-word-requires c κs = omega arith
+
+mul-words : tie.Need-mul-words Inv-loop μ-loop
+mul-words c = omega arith
+
+slice-write-words : tie.Need-slice-write-words Inv-loop μ-loop
+slice-write-words c = omega arith
+
+add-i : tie.Need-add-i Inv-loop μ-loop
+add-i c = omega arith
+
+loop-less : tie.Need-loop-less Inv-loop μ-loop
+loop-less c = omega arith
+
+loop-again : tie.Need-loop-again Inv-loop μ-loop
+loop-again c =
+    let head = c .before .before in
+    let start = head .before .before .before .before .before in
+    let bytes = padded (now (start .args .password)) (now (start .args .salt)) (now (start .args .numbers)) in
+    let b = start .args .b in
+    let i = head .loop .i in (
+      omega arith,
+      simp length-set (head .loop .inv .1),
+      rw add-one
+          (zip-again _ _ _ _ _ _ (length-words 8 (drop (64 * b) bytes)) (head .loop .inv .2) _ (omega arith)
+          (c .input-word .ensures
+          ∙ sym (getD-words 8 (drop (64 * b) bytes) i (omega arith)
+          ∙ ap (λ (l : List ℕ). leValue (take 8 l)) (drop-drop (8 * i) (64 * b) bytes)))),
+    )
+
+same-length : tie.Need-same-length Inv-loop μ-loop
+same-length c = omega arith
+
+returns : tie.Need-returns Inv-loop μ-loop
+returns c =
+    let start = c .before .before .before .before .before .before in
+    let bytes = padded (now (start .args .password)) (now (start .args .salt)) (now (start .args .numbers)) in
+    let l = length-words 8 (drop (64 * start .args .b) bytes) in
+    zip-end _ _ _ _ (c .before .loop .i) _ l (c .before .loop .inv .2) (omega arith)
+    ∙ put-all _ _ (omega (arith, l))
+
+pub fill-block-spec : {M : Type 1} → statement M
+fill-block-spec =
+    tie.close
+    (tie.spec
+    Inv-loop
+    μ-loop
+    loop-holds
+    mul-input-word
+    mul-input-word-2
+    add-input-word
+    input-word-requires
+    mul-words
+    slice-write-words
+    add-i
+    loop-less
+    loop-again
+    same-length
+    returns)

@@ -1,0 +1,2 @@
+-- The padded input and its absorption.
+pub mod Input

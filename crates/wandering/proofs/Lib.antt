@@ -1,0 +1,2 @@
+-- The laws of Wandering.
+pub mod Recording
