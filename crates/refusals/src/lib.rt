@@ -94,6 +94,13 @@ pub fn plain_refusal(
     first_of(matrix < 12 * (rows * columns), MATRIX_LENGTH, 0)
 }
 
+// Check 5 alone, of R: what the walk program asks.
+pub fn rows_refusal(rows: usize) -> u32
+    ensures { λ r. ⌜ r ≡ first (rowsCheck rows ∷ []) ⌝ }
+{
+    first_of(outside(MIN_ROWS, MAX_ROWS, rows), ROW_COUNT, 0)
+}
+
 // Checks 5 and 9, of R and of a Setup step's row.
 pub fn walk_refusal(rows: usize, row0: usize) -> u32
     ensures { λ r. ⌜ r ≡ first (walkChecks rows row0) ⌝ }

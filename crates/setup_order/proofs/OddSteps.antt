@@ -2,7 +2,7 @@
 -- Assumes nothing.
 use mathlib.Core.Path.{_≡_, ap, _∙_}
 use Prim.Native.Nat.{ℕ, zero, suc, _+_, _*_, _/_, _%_, _^_}
-use native.Mathlib.Nat.{mod-one, mul-assoc, mul-comm, mul-add, mul-one, pow-suc}
+use native.Mathlib.Nat.{mod-one, mul-assoc, mul-add, mul-one, pow-suc}
 use native.Mathlib.Omega.{arith}
 use lib.Pow.{pow-pos}
 use lib.Arith.{mod-mul}

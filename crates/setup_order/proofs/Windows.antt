@@ -1,6 +1,6 @@
 -- Where the order of Setup stands: each window is a power of two and its step is odd, so that row1 comes back to 0 only when as many
 -- rows as the window holds are filled. Assumes nothing.
-use mathlib.Core.Path.{_≡_, refl, sym, ap, ap₂, _∙_}
+use mathlib.Core.Path.{_≡_, refl, sym, ap, _∙_}
 use Prim.Native.Nat.{ℕ, zero, suc, _+_, _-_, _*_, _%_, _^_, _≤_, _<_}
 use native.Mathlib.Nat.{add-suc, pow-suc, suc-mul, zero-mod, zero-mul, mod-lt, mod-eq-of-lt, mod-add-mod, mul-mod-right, eq-or-lt-of-le}
 use native.Mathlib.Omega.{arith}

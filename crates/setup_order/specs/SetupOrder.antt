@@ -1,6 +1,6 @@
 -- The order in which Setup revisits rows, from row 3 on. The paper's gap is +1 where rising is true and −1 where it is false.
 use Prim.Native.Nat.{ℕ, zero, suc, _+_, _-_, _*_, _%_, _^_, _≤_, _<_}
-use mathlib.Core.Bool.{Bool, true, false, cond, not}
+use mathlib.Core.Bool.{true, cond, not}
 use lib.Dec.{eqb}
 use Rattle.setup_order.specs.declared.Order.{Order}
 

@@ -1,6 +1,6 @@
 // The order in which Setup revisits rows.
 ghost use mathlib.Core.Path.{_≡_};
-ghost use mathlib.Core.Bool.{cond, not};
+ghost use mathlib.Core.Bool.{cond};
 ghost use Prim.Native.Nat.{_+_, _-_, _*_, _<_, _≤_, _^_};
 ghost use Rattle.setup_order.specs.SetupOrder.{Fits, firstOrder, newWindow, nextOrder};
 

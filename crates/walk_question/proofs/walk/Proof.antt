@@ -1,5 +1,5 @@
 -- `walk` meets its contract: accepted, the bounds that the checks leave are those that the steps need. Assumes nothing.
-use mathlib.Core.Path.{_≡_, sym, _∙_}
+use mathlib.Core.Path.{sym, _∙_}
 use native.Mathlib.Omega.{arith}
 use borrow.Author.Tests.{eq-eqb, ne-eqb}
 use Rattle.refusals.proofs.Accepted.{walk-bounds}

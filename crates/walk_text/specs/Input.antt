@@ -1,0 +1,17 @@
+-- R as standard input gives it. Bytes are in ASCII: 48 to 57 are the digits, 10 is the newline.
+use Prim.Native.Nat.{ℕ, _+_, _-_, _*_}
+use mathlib.Core.Bool.{cond, not, _&&_}
+use mathlib.Core.List.{List, [], _∷_}
+use lib.Dec.{leb, eqb}
+use lib.ListN.{length, getD, take}
+
+-- the number whose digits are those of v and then these, 0 where one of these is no digit
+unfoldable pub numberFrom : ℕ → List ℕ → ℕ
+numberFrom v [] = v
+numberFrom v (b ∷ bs) = cond (leb 48 b && leb b 57) (numberFrom (v * 10 + (b - 48)) bs) 0
+
+-- one to five decimal digits without a leading zero, one newline and then the end; any other input is 0, outside the limits
+unfoldable pub rowsRead : List ℕ → ℕ
+rowsRead input =
+    let n = length input - 1 in
+    cond (leb 1 n && leb n 5 && not (eqb (getD input 0 0) 48) && eqb (getD input n 0) 10) (numberFrom 0 (take n input)) 0
