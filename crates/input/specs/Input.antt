@@ -1,10 +1,14 @@
 -- The padded input and its absorption.
-use Prim.Native.Nat.{ℕ, zero, suc, _+_, _-_, _*_, _/_, _%_}
+use Prim.Native.Nat.{ℕ, zero, suc, _+_, _-_, _*_, _/_, _%_, _≤_}
 use mathlib.Core.List.{List, [], _∷_, _++_}
 use lib.ListN.{length, drop, replicate}
 use Rattle.little_endian.specs.Bytes.{leEach, leWords}
 use Rattle.sponge.specs.Profile.{fullRounds, blockWords, start}
 use Rattle.sponge.specs.Sponge.{absorb}
+
+-- the lengths that acceptance leaves, and as many numbers as any edition has
+abbrev pub Limits : ℕ → ℕ → ℕ → Type 0
+Limits passwordLength saltLength count = (passwordLength ≤ 1024) × (saltLength ≤ 64) × (count ≤ 8)
 
 abbrev pub blockBytes : ℕ
 blockBytes = 64
