@@ -3,9 +3,11 @@
 use mathlib.Core.Path.{_≡_, refl, sym, ap, ap₂, _∙_}
 use Prim.Native.Nat.{ℕ, zero, suc, _+_, _-_, _*_, _/_, _%_, _≤_, _<_}
 use native.Mathlib.Nat.{zero-add, suc-add}
+use native.Mathlib.Numerals.{one-add}
 use native.Mathlib.Omega.{arith}
 use mathlib.Core.List.{List}
-use lib.ListN.{length, getD}
+use lib.ListN.{length, getD, length-append, List·getD-append}
+use lib.Seq.{getD-take, getD-append-add, length-take-le}
 use Rattle.lists.specs.Zip.{tabulate}
 use Rattle.lists.proofs.ZipLaws.{length-tabulate, getD-tabulate}
 use Rattle.little_endian.specs.Bytes.{leBytes, leEach}
@@ -16,11 +18,7 @@ use Rattle.permutation.proofs.State.{IsState}
 use Rattle.permutation.proofs.Undo.{rounds-state}
 use Rattle.sponge.specs.Profile.{fullRounds}
 use Rattle.sponge.specs.Sponge.{rand}
-use Rattle.key.specs.Key.{fullCalls, piece, keyByte, keyBytes, pieces, callsBetween, callsBefore, squeezed}
-
-pub length-key : (sum : ℕ → ℕ → ℕ) (n : ℕ) (s : List ℕ) → length (keyBytes sum n s) ≡ n
-unfolding keyBytes
-length-key sum n s = length-tabulate n (keyByte sum s)
+use Rattle.key.specs.Key.{fullCalls, piece, keyPieces, keyBytes, pieces, callsBetween, callsBefore, squeezed}
 
 -- byte i of a piece
 pub piece-at : (s : List ℕ) (i : ℕ) → i < 96 → getD (piece s) i 0 ≡ getD (leBytes 8 (getD s (i / 8) 0)) (i % 8) 0
@@ -30,6 +28,47 @@ piece-at s i h =
     ap (λ (k : ℕ). getD (leEach 8 (tabulate 12 (λ j. getD s j 0))) k 0) split
     ∙ getD-each 8 (tabulate 12 (λ j. getD s j 0)) (i / 8) (i % 8) (omega (arith, length-tabulate 12 (λ j. getD s j 0))) (omega arith)
     ∙ ap (λ (w : ℕ). getD (leBytes 8 w) (i % 8) 0) (getD-tabulate 12 (λ j. getD s j 0) (i / 8) (omega arith))
+
+pub length-piece : (s : List ℕ) → length (piece s) ≡ 96
+unfolding piece rand
+length-piece s = omega (arith, length-each 8 (rand s), length-tabulate 12 (λ j. getD s j 0))
+
+-- ---- the key of a first state
+module _ (sum : ℕ → ℕ → ℕ) (s₀ : List ℕ) where
+  length-pieces : (k : ℕ) → length (keyPieces sum k s₀) ≡ 96 * k
+  unfolding keyPieces
+  length-pieces zero = refl
+  length-pieces (suc k) =
+      omega
+      (arith, length-append (keyPieces sum k s₀) (piece (fullCalls sum k s₀)), length-pieces k, length-piece (fullCalls sum k s₀))
+
+  pub length-key : (n : ℕ) → length (keyBytes sum n s₀) ≡ n
+  unfolding keyBytes pieces
+  length-key n = length-take-le n (keyPieces sum (pieces n) s₀) (omega (arith, length-pieces (pieces n)))
+
+  -- byte r of piece q, where j more pieces follow
+  pieces-at : (j q r : ℕ) → r < 96 → getD (keyPieces sum (suc j + q) s₀) (96 * q + r) 0 ≡ getD (piece (fullCalls sum q s₀)) r 0
+  unfolding keyPieces
+  pieces-at zero q r h =
+      let place : 96 * q + r ≡ length (keyPieces sum q s₀) + r = omega (arith, length-pieces q) in
+      rw (one-add, place) (getD-append-add (keyPieces sum q s₀) (piece (fullCalls sum q s₀)) r 0)
+  pieces-at (suc j) q r h =
+      let inside : 96 * q + r < length (keyPieces sum (suc j + q) s₀) = omega (arith, length-pieces (suc j + q)) in
+      rw suc-add
+      (List·getD-append (keyPieces sum (suc j + q) s₀) (piece (fullCalls sum (suc j + q) s₀)) 0 (96 * q + r) inside
+      ∙ pieces-at j q r h)
+
+  -- byte i of the key is byte i % 96 of the output after i / 96 full calls
+  pub key-at : (n i : ℕ) → i < n → getD (keyBytes sum n s₀) i 0 ≡ getD (piece (fullCalls sum (i / 96) s₀)) (i % 96) 0
+  unfolding keyBytes pieces
+  key-at n i h =
+      let split : i ≡ 96 * (i / 96) + i % 96 = omega arith in
+      let count : pieces n ≡ suc (pieces n - 1 - i / 96) + i / 96 = omega arith in
+      getD-take n (keyPieces sum (pieces n) s₀) i 0 h
+      ∙ ap₂ (λ (k m : ℕ). getD (keyPieces sum k s₀) m 0) count split
+      ∙ pieces-at (pieces n - 1 - i / 96) (i / 96) (i % 96) (omega arith)
+
+-- ---- the calls between the pieces
 
 pub calls-none : callsBetween 0 ≡ 0
 unfolding pieces
@@ -78,12 +117,12 @@ module _ (sum : ℕ → ℕ → ℕ) (s₀ : List ℕ) where
         ∙ ap (λ (k : ℕ). fullCalls sum k s₀) (omega (arith, calls-more i))
 
     pub next-of-key : (n b : ℕ) → i < n → b ≡ getD (piece t) (i % 96) 0 → b ≡ getD (keyBytes sum n s₀) i 0
-    unfolding squeezed keyBytes pieces
+    unfolding squeezed pieces
     next-of-key n b h e =
         let calls : callsBetween (i + 1) ≡ i / 96 = omega arith in
         e ∙ ap (λ (u : List ℕ). getD (piece u) (i % 96) 0) next-state
         ∙ ap (λ (k : ℕ). getD (piece (fullCalls sum k s₀)) (i % 96) 0) calls
-        ∙ sym (getD-tabulate n (keyByte sum s₀) i h)
+        ∙ sym (key-at sum s₀ n i h)
 
 -- full calls keep states
 pub fullCalls-state : (A : Addition) (k : ℕ) {s : List ℕ} → IsState s → IsState (fullCalls (A .sum) k s)

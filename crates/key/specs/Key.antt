@@ -1,10 +1,9 @@
 -- The key that a state gives, and its comparison with a stored one.
-use Prim.Native.Nat.{ℕ, zero, suc, _+_, _-_, _/_, _%_}
-use mathlib.Core.List.{List, [], _∷_}
-use lib.ListN.{getD}
+use Prim.Native.Nat.{ℕ, zero, suc, _+_, _-_, _/_}
+use mathlib.Core.List.{List, [], _∷_, _++_}
+use lib.ListN.{take}
 use mathlib.Core.Bool.{Bool, true, false, _&&_}
 use lib.Dec.{eqb}
-use Rattle.lists.specs.Zip.{tabulate}
 use Rattle.little_endian.specs.Bytes.{leEach}
 use Rattle.permutation.specs.Round.{rounds}
 use Rattle.sponge.specs.Profile.{fullRounds}
@@ -23,17 +22,18 @@ fullCalls sum (suc k) s = rounds sum fullRounds (fullCalls sum k s)
 unfoldable pub piece : List ℕ → List ℕ
 piece s = leEach 8 (rand s)
 
--- byte i of the key: piece i / 96 is the output after as many full calls
-abbrev pub keyByte : (ℕ → ℕ → ℕ) → List ℕ → ℕ → ℕ
-keyByte sum s i = getD (piece (fullCalls sum (i / pieceBytes) s)) (i % pieceBytes) 0
-
--- n bytes of the key: whole pieces from the first on, and the last one cut short
-unfoldable pub keyBytes : (ℕ → ℕ → ℕ) → ℕ → List ℕ → List ℕ
-keyBytes sum n s = tabulate n (keyByte sum s)
+-- the first k pieces of the key, each the output after one full call more
+unfoldable pub keyPieces : (ℕ → ℕ → ℕ) → ℕ → List ℕ → List ℕ
+keyPieces sum zero s = []
+keyPieces sum (suc k) s = keyPieces sum k s ++ piece (fullCalls sum k s)
 
 -- how many pieces n bytes take: n divided by 96, rounded up
 unfoldable pub pieces : ℕ → ℕ
 pieces n = (n + (pieceBytes - 1)) / pieceBytes
+
+-- a key of n bytes: as many pieces as it takes, the last one cut short
+unfoldable pub keyBytes : (ℕ → ℕ → ℕ) → ℕ → List ℕ → List ℕ
+keyBytes sum n s = take n (keyPieces sum (pieces n) s)
 
 -- the full calls between the pieces of n bytes: none before the first and none after the last
 abbrev pub callsBetween : ℕ → ℕ

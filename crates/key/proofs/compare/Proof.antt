@@ -56,7 +56,7 @@ loop-again c =
     let byte = next-of-key _ _ _ _ i left (next .ensures .0) (length stored) _ (omega arith) (next .ensures .1) in (
       omega arith,
       rw (add-one, c .before .differing .ensures, byte)
-          (difference-more stored key i (head .loop .difference) (omega arith) (omega (arith, length-key plainSum (length stored) (now (start .args .s)))) (head .loop .inv .1)),
+          (difference-more stored key i (head .loop .difference) (omega arith) (omega (arith, length-key plainSum (now (start .args .s)) (length stored))) (head .loop .inv .1)),
       next-state _ _ _ _ i left (next .ensures .0),
       omega (arith, calls-more i),
     )
@@ -70,7 +70,7 @@ returns c =
     let at-end : head .loop .i ≡ length stored = omega arith in (
       head .loop .inv .1
           ∙ ap₂ sameBytes (take-all (head .loop .i) stored (omega arith))
-          (take-all (head .loop .i) key (omega (arith, length-key plainSum (length stored) (now (start .args .s))))),
+          (take-all (head .loop .i) key (omega (arith, length-key plainSum (now (start .args .s)) (length stored)))),
       rw at-end at (head .loop .inv .2),
       rw at-end at (head .loop .inv .3),
     )
