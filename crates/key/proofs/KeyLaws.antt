@@ -1,7 +1,7 @@
 -- The key's length, its bytes and the calls between them: the state that i bytes leave gives byte i once the calls before it
 -- are made. Assumes nothing.
 use mathlib.Core.Path.{_≡_, refl, sym, ap, ap₂, _∙_}
-use Prim.Native.Nat.{ℕ, zero, suc, _+_, _-_, _*_, _/_, _%_, _≤_, _<_}
+use Prim.Native.Nat.{ℕ, zero, suc, _+_, _-_, _*_, _/_, _%_, _<_}
 use native.Mathlib.Nat.{zero-add, suc-add}
 use native.Mathlib.Numerals.{one-add}
 use native.Mathlib.Omega.{arith}
@@ -11,7 +11,7 @@ use lib.Seq.{getD-take, getD-append-add, length-take-le}
 use Rattle.lists.specs.Zip.{tabulate}
 use Rattle.lists.proofs.ZipLaws.{length-tabulate, getD-tabulate}
 use Rattle.little_endian.specs.Bytes.{leBytes, leEach}
-use Rattle.little_endian.proofs.ByteLaws.{length-each, getD-each}
+use Rattle.little_endian.proofs.ByteLaws.{AllBytes, length-each, getD-each, append-bytes, each-bytes, take-bytes}
 use Rattle.permutation.specs.Round.{rounds}
 use Rattle.permutation.specs.Inverse.{Addition}
 use Rattle.permutation.proofs.State.{IsState}
@@ -67,6 +67,16 @@ module _ (sum : ℕ → ℕ → ℕ) (s₀ : List ℕ) where
       getD-take n (keyPieces sum (pieces n) s₀) i 0 h
       ∙ ap₂ (λ (k m : ℕ). getD (keyPieces sum k s₀) m 0) count split
       ∙ pieces-at (pieces n - 1 - i / 96) (i / 96) (i % 96) (omega arith)
+
+  pieces-bytes : (k : ℕ) → AllBytes (keyPieces sum k s₀)
+  unfolding keyPieces piece
+  pieces-bytes zero i = omega arith
+  pieces-bytes (suc k) i =
+      append-bytes (keyPieces sum k s₀) (piece (fullCalls sum k s₀)) (pieces-bytes k) (each-bytes 8 (rand (fullCalls sum k s₀))) i
+
+  pub key-bytes : (n : ℕ) → AllBytes (keyBytes sum n s₀)
+  unfolding keyBytes
+  key-bytes n = take-bytes n (keyPieces sum (pieces n) s₀) (pieces-bytes (pieces n))
 
 -- ---- the calls between the pieces
 
@@ -124,8 +134,13 @@ module _ (sum : ℕ → ℕ → ℕ) (s₀ : List ℕ) where
         ∙ ap (λ (k : ℕ). getD (piece (fullCalls sum k s₀)) (i % 96) 0) calls
         ∙ sym (key-at sum s₀ n i h)
 
--- full calls keep states
-pub fullCalls-state : (A : Addition) (k : ℕ) {s : List ℕ} → IsState s → IsState (fullCalls (A .sum) k s)
-unfolding fullCalls
-fullCalls-state A zero h = h
-fullCalls-state A (suc k) h = rounds-state A fullRounds (fullCalls-state A k h)
+-- ---- states
+module _ (A : Addition) where
+  fullCalls-state : (k : ℕ) {s : List ℕ} → IsState s → IsState (fullCalls (A .sum) k s)
+  unfolding fullCalls
+  fullCalls-state zero h = h
+  fullCalls-state (suc k) h = rounds-state A fullRounds (fullCalls-state k h)
+
+  pub squeezed-state : (n : ℕ) {s : List ℕ} → IsState s → IsState (squeezed (A .sum) n s)
+  unfolding squeezed
+  squeezed-state n h = fullCalls-state (callsBetween n) h

@@ -2,15 +2,23 @@
 use little_endian::byte_of;
 use sponge::duplex::full_call;
 ghost use mathlib.Core.Path.{_≡_};
-ghost use Prim.Native.Nat.{_%_, _<_};
+ghost use Prim.Native.Nat.{_%_, _≤_, _<_};
 ghost use lib.ListN.{length, getD};
 ghost use lib.Bits.{bitOr, bitXor};
 ghost use Rattle.permutation.specs.Word.{plainSum};
-ghost use Rattle.key.specs.Key.{fullCalls, piece, keyBytes, callsBetween, callsBefore, squeezed, sameBytes};
+ghost use Rattle.key.specs.Key.{fullCalls, piece, keyBytes, pieces, callsBetween, callsBefore, squeezed, sameBytes};
 
 const PIECE_BYTES: usize = 96;
 
 const WORD_BYTES: usize = 8;
+
+// How many pieces a key of so many bytes takes.
+pub fn piece_count(bytes: usize) -> usize
+    requires { ⌜ bytes ≤ 1024 ⌝ }
+    ensures { λ r. ⌜ r ≡ pieces bytes ⌝ }
+{
+    (bytes + PIECE_BYTES - 1) / PIECE_BYTES
+}
 
 // The full call between two pieces: it is made before the first byte of each piece but the first.
 fn call_between(s: &mut [u64; 16], i: usize) -> u64
