@@ -6,10 +6,6 @@ use Rattle.little_endian.specs.Bytes.{leEach, leWords}
 use Rattle.sponge.specs.Profile.{fullRounds, blockWords, start}
 use Rattle.sponge.specs.Sponge.{absorb}
 
--- the lengths that acceptance leaves, and as many numbers as any edition has
-abbrev pub Limits : ℕ → ℕ → ℕ → Type 0
-Limits passwordLength saltLength count = (passwordLength ≤ 1024) × (saltLength ≤ 64) × (count ≤ 8)
-
 abbrev pub blockBytes : ℕ
 blockBytes = 64
 
@@ -59,3 +55,7 @@ absorbInput sum password salt ns s =
 -- the state of a derivation once its input is absorbed
 unfoldable pub absorbed : (ℕ → ℕ → ℕ) → List ℕ → List ℕ → List ℕ → List ℕ
 absorbed sum password salt ns = absorbInput sum password salt ns start
+
+-- the lengths that acceptance leaves, and as many numbers as any edition has
+abbrev pub Limits : ℕ → ℕ → ℕ → Type 0
+Limits passwordLength saltLength count = (passwordLength ≤ 1024) × (saltLength ≤ 64) × (count ≤ 8)

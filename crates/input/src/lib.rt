@@ -1,6 +1,7 @@
 // The padded input, byte by byte as it is asked for, and its absorption. No copy of the password is
 // kept beyond the block that is being absorbed.
 use little_endian::byte_of;
+use little_endian::widened;
 use sponge::duplex::absorb_block;
 ghost use mathlib.Core.Path.{_≡_};
 ghost use Prim.Native.Nat.{_+_, _*_, _≤_, _<_};
@@ -65,12 +66,6 @@ fn input_byte(password: &[u8], salt: &[u8], numbers: &[u64], i: usize) -> u8
     }
     let used = password.len() + salt.len() + n;
     padding_byte(BLOCK_BYTES - used % BLOCK_BYTES, k - n)
-}
-
-fn widened(b: u8) -> u64
-    ensures { λ r. ⌜ r ≡ b ⌝ }
-{
-    b as u64
 }
 
 // The word at byte `at` of the padded input.
