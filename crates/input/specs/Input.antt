@@ -1,5 +1,5 @@
 -- The padded input and its absorption.
-use Prim.Native.Nat.{ℕ, zero, suc, _+_, _-_, _*_, _/_, _%_, _≤_}
+use Prim.Native.Nat.{ℕ, zero, suc, _+_, _-_, _*_, _/_, _%_, _^_, _<_}
 use mathlib.Core.List.{List, [], _∷_, _++_}
 use lib.ListN.{length, drop, replicate}
 use Rattle.little_endian.specs.Bytes.{leEach, leWords}
@@ -56,6 +56,6 @@ absorbInput sum password salt ns s =
 unfoldable pub absorbed : (ℕ → ℕ → ℕ) → List ℕ → List ℕ → List ℕ → List ℕ
 absorbed sum password salt ns = absorbInput sum password salt ns start
 
--- the lengths that acceptance leaves, and as many numbers as any edition has
-abbrev pub Limits : ℕ → ℕ → ℕ → Type 0
-Limits passwordLength saltLength count = (passwordLength ≤ 1024) × (saltLength ≤ 64) × (count ≤ 8)
+-- an input whose lengths are four-byte numbers, as that of every accepted call
+abbrev pub Short : ℕ → ℕ → ℕ → Type 0
+Short passwordLength saltLength count = passwordLength + saltLength + numberBytes * count < 2 ^ 32

@@ -8,7 +8,7 @@ ghost use Prim.Native.Nat.{_+_, _*_, _≤_, _<_};
 ghost use lib.ListN.{length, getD, take, drop};
 ghost use Rattle.permutation.specs.Word.{plainSum};
 ghost use Rattle.little_endian.specs.Bytes.{leValue, leEach};
-ghost use Rattle.input.specs.Input.{Limits, numbers, padding, padded, blocks, block, absorbInput};
+ghost use Rattle.input.specs.Input.{Short, numbers, padding, padded, blocks, block, absorbInput};
 
 const BLOCK_BYTES: usize = 64;
 
@@ -41,7 +41,7 @@ fn padding_byte(n: usize, i: usize) -> u8
 
 // How many blocks the padded input has.
 pub fn block_count(password: usize, salt: usize, numbers: usize) -> usize
-    requires { ⌜ Limits password salt numbers ⌝ }
+    requires { ⌜ Short password salt numbers ⌝ }
     ensures { λ r. ⌜ r ≡ blocks password salt numbers ⌝ }
 {
     (password + salt + NUMBER_BYTES * numbers + BLOCK_BYTES) / BLOCK_BYTES
@@ -49,7 +49,7 @@ pub fn block_count(password: usize, salt: usize, numbers: usize) -> usize
 
 // Byte i of the padded input.
 fn input_byte(password: &[u8], salt: &[u8], numbers: &[u64], i: usize) -> u8
-    requires { ⌜ Limits (length (now password)) (length (now salt)) (length (now numbers)) ⌝ }
+    requires { ⌜ Short (length (now password)) (length (now salt)) (length (now numbers)) ⌝ }
     ensures { λ r. ⌜ r ≡ getD (padded (now (password .entry)) (now (salt .entry)) (now (numbers .entry))) i 0 ⌝ }
 {
     if i < password.len() {
@@ -70,7 +70,7 @@ fn input_byte(password: &[u8], salt: &[u8], numbers: &[u64], i: usize) -> u8
 
 // The word at byte `at` of the padded input.
 fn input_word(password: &[u8], salt: &[u8], numbers: &[u64], at: usize) -> u64
-    requires { ⌜ Limits (length (now password)) (length (now salt)) (length (now numbers)) × (at + 8 ≤ 64 * blocks (length (now password)) (length (now salt)) (length (now numbers))) ⌝ }
+    requires { ⌜ Short (length (now password)) (length (now salt)) (length (now numbers)) × (at + 8 ≤ 64 * blocks (length (now password)) (length (now salt)) (length (now numbers))) ⌝ }
     ensures { λ r. ⌜ r ≡ leValue (take 8 (drop at (padded (now (password .entry)) (now (salt .entry)) (now (numbers .entry))))) ⌝ }
 {
     let mut v: u64 = 0;
@@ -84,7 +84,7 @@ fn input_word(password: &[u8], salt: &[u8], numbers: &[u64], at: usize) -> u64
 
 // The words of block b of the padded input.
 fn fill_block(words: &mut [u64], password: &[u8], salt: &[u8], numbers: &[u64], b: usize)
-    requires { ⌜ Limits (length (now password)) (length (now salt)) (length (now numbers)) × (b < blocks (length (now password)) (length (now salt)) (length (now numbers))) × (length (now words) ≡ 8) ⌝ }
+    requires { ⌜ Short (length (now password)) (length (now salt)) (length (now numbers)) × (b < blocks (length (now password)) (length (now salt)) (length (now numbers))) × (length (now words) ≡ 8) ⌝ }
     ensures { λ _. ⌜ now (words .exit) ≡ block (padded (now (password .entry)) (now (salt .entry)) (now (numbers .entry))) b ⌝ }
 {
     let mut i = 0;
@@ -96,7 +96,7 @@ fn fill_block(words: &mut [u64], password: &[u8], salt: &[u8], numbers: &[u64], 
 
 // Absorbs the padded input for a list of numbers, and returns how many full calls were made.
 pub fn absorb_padded(s: &mut [u64; 16], password: &[u8], salt: &[u8], numbers: &[u64]) -> u64
-    requires { ⌜ Limits (length (now password)) (length (now salt)) (length (now numbers)) ⌝ }
+    requires { ⌜ Short (length (now password)) (length (now salt)) (length (now numbers)) ⌝ }
     ensures { λ r. ⌜ (now (s .exit) ≡ absorbInput plainSum (now (password .entry)) (now (salt .entry)) (now (numbers .entry)) (now (s .entry))) × (r ≡ blocks (length (now (password .entry))) (length (now (salt .entry))) (length (now (numbers .entry)))) ⌝ }
 {
     let n = block_count(password.len(), salt.len(), numbers.len());
@@ -124,7 +124,7 @@ pub fn absorb_input(
     r: usize,
     c: usize,
 ) -> u64
-    requires { ⌜ Limits (length (now password)) (length (now salt)) 6 ⌝ }
+    requires { ⌜ Short (length (now password)) (length (now salt)) 6 ⌝ }
     ensures { λ calls. ⌜ (now (s .exit) ≡ absorbInput plainSum (now (password .entry)) (now (salt .entry)) (numbers «key_length» (now (password .entry)) (now (salt .entry)) t r c) (now (s .entry))) × (calls ≡ blocks (length (now (password .entry))) (length (now (salt .entry))) 6) ⌝ }
 {
     let numbers = [

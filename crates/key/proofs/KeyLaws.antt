@@ -8,8 +8,6 @@ use native.Mathlib.Omega.{arith}
 use mathlib.Core.List.{List}
 use lib.ListN.{length, getD, length-append, List·getD-append}
 use lib.Seq.{getD-take, getD-append-add, length-take-le}
-use Rattle.lists.specs.Zip.{tabulate}
-use Rattle.lists.proofs.ZipLaws.{length-tabulate, getD-tabulate}
 use Rattle.little_endian.specs.Bytes.{leBytes, leEach}
 use Rattle.little_endian.proofs.ByteLaws.{AllBytes, length-each, getD-each, append-bytes, each-bytes, take-bytes}
 use Rattle.permutation.specs.Round.{rounds}
@@ -18,20 +16,21 @@ use Rattle.permutation.proofs.State.{IsState}
 use Rattle.permutation.proofs.Undo.{rounds-state}
 use Rattle.sponge.specs.Profile.{fullRounds}
 use Rattle.sponge.specs.Sponge.{rand}
+use Rattle.sponge.proofs.Output.{length-rand, getD-rand}
 use Rattle.key.specs.Key.{fullCalls, piece, keyPieces, keyBytes, pieces, callsBetween, callsBefore, squeezed}
 
 -- byte i of a piece
 pub piece-at : (s : List ℕ) (i : ℕ) → i < 96 → getD (piece s) i 0 ≡ getD (leBytes 8 (getD s (i / 8) 0)) (i % 8) 0
-unfolding piece rand
+unfolding piece
 piece-at s i h =
     let split : i ≡ 8 * (i / 8) + i % 8 = omega arith in
-    ap (λ (k : ℕ). getD (leEach 8 (tabulate 12 (λ j. getD s j 0))) k 0) split
-    ∙ getD-each 8 (tabulate 12 (λ j. getD s j 0)) (i / 8) (i % 8) (omega (arith, length-tabulate 12 (λ j. getD s j 0))) (omega arith)
-    ∙ ap (λ (w : ℕ). getD (leBytes 8 w) (i % 8) 0) (getD-tabulate 12 (λ j. getD s j 0) (i / 8) (omega arith))
+    ap (λ (k : ℕ). getD (leEach 8 (rand s)) k 0) split
+    ∙ getD-each 8 (rand s) (i / 8) (i % 8) (omega (arith, length-rand s)) (omega arith)
+    ∙ ap (λ (w : ℕ). getD (leBytes 8 w) (i % 8) 0) (getD-rand s (i / 8) (omega arith))
 
 pub length-piece : (s : List ℕ) → length (piece s) ≡ 96
-unfolding piece rand
-length-piece s = omega (arith, length-each 8 (rand s), length-tabulate 12 (λ j. getD s j 0))
+unfolding piece
+length-piece s = omega (arith, length-each 8 (rand s), length-rand s)
 
 -- ---- the key of a first state
 module _ (sum : ℕ → ℕ → ℕ) (s₀ : List ℕ) where

@@ -2,7 +2,7 @@
 use little_endian::byte_of;
 use sponge::duplex::full_call;
 ghost use mathlib.Core.Path.{_≡_};
-ghost use Prim.Native.Nat.{_%_, _≤_, _<_};
+ghost use Prim.Native.Nat.{_%_, _^_, _<_};
 ghost use lib.ListN.{length, getD};
 ghost use lib.Bits.{bitOr, bitXor};
 ghost use Rattle.permutation.specs.Word.{plainSum};
@@ -14,7 +14,7 @@ const WORD_BYTES: usize = 8;
 
 // How many pieces a key of so many bytes takes.
 pub fn piece_count(bytes: usize) -> usize
-    requires { ⌜ bytes ≤ 1024 ⌝ }
+    requires { ⌜ bytes < 2 ^ 32 ⌝ }
     ensures { λ r. ⌜ r ≡ pieces bytes ⌝ }
 {
     (bytes + PIECE_BYTES - 1) / PIECE_BYTES

@@ -1,3 +1,4 @@
 -- The laws of lists of words.
 pub mod Words
 pub mod ZipLaws
+pub mod LoopLaws

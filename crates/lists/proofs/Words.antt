@@ -8,7 +8,7 @@ use lib.ListN.{getD, set}
 abbrev pub AllWords : List ℕ → Type 0
 AllWords s = (i : ℕ) → getD s i 0 < 2 ^ 64
 
-none-words : AllWords []
+pub none-words : AllWords []
 none-words i = omega arith
 
 pub cons-words : (x : ℕ) (s : List ℕ) → x < 2 ^ 64 → AllWords s → AllWords (x ∷ s)

@@ -1,14 +1,15 @@
 -- Laws of a function applied place by place: lengths, elements, one place more, and undoing. Assumes nothing.
 use mathlib.Core.Path.{_≡_, refl, sym, ap, ap₂, _∙_}
-use Prim.Native.Nat.{ℕ, zero, suc, _≤_, _<_, _^_}
-use native.Mathlib.Nat.{not-suc-le-zero, le-of-suc-le-suc, suc-inj}
+use Prim.Native.Nat.{ℕ, zero, suc, _+_, _≤_, _<_, _^_}
+use native.Mathlib.Nat.{not-suc-le-zero, le-of-suc-le-suc, suc-inj, zero-add, suc-add, add-zero, add-suc}
 use native.Mathlib.Omega.{arith}
-use mathlib.Core.List.{List, [], _∷_}
+use native.Mathlib.Numerals.{add-one}
+use mathlib.Core.List.{List, [], _∷_, _++_}
 use lib.ListN.{length, getD, take, set}
 use lib.Seq.{take-all}
 use lib.Bits.{bitXor, xor-lt}
-use Rattle.lists.specs.Zip.{zipInto, xorInto, putInto, tabulate}
-use Rattle.lists.proofs.Words.{AllWords, cons-words}
+use Rattle.lists.specs.Zip.{zipInto, zipAt, xorInto, putInto, tabulate}
+use Rattle.lists.proofs.Words.{AllWords, none-words, cons-words}
 
 module _ (f : ℕ → ℕ → ℕ) where
   pub zip-none : (xs : List ℕ) → zipInto f xs [] ≡ xs
@@ -100,3 +101,74 @@ put-all [] [] e = refl
 put-all [] (y ∷ ys) e = absurd (omega arith)
 put-all (x ∷ xs) [] e = absurd (omega arith)
 put-all (x ∷ xs) (y ∷ ys) e = ap (λ (l : List ℕ). y ∷ l) (put-all xs ys (suc-inj e))
+
+-- ---- from a place on
+
+module _ (f : ℕ → ℕ → ℕ) where
+  pub length-zipAt : (a : ℕ) (xs ys : List ℕ) → length (zipAt f a xs ys) ≡ length xs
+  unfolding zipAt
+  length-zipAt zero xs ys = length-zip f xs ys
+  length-zipAt (suc a) [] ys = length-zip f [] ys
+  length-zipAt (suc a) (x ∷ xs) ys = ap suc (length-zipAt a xs ys)
+
+  pub zipAt-none : (a : ℕ) (xs : List ℕ) → zipAt f a xs [] ≡ xs
+  unfolding zipAt
+  zipAt-none zero xs = zip-none f xs
+  zipAt-none (suc a) [] = zip-none f []
+  zipAt-none (suc a) (x ∷ xs) = ap (λ (l : List ℕ). x ∷ l) (zipAt-none a xs)
+
+  -- what stands before the place is kept
+  pub getD-before : (a : ℕ) (xs ys : List ℕ) (i : ℕ) → i < a → getD (zipAt f a xs ys) i 0 ≡ getD xs i 0
+  unfolding zipAt zipInto
+  getD-before zero xs ys i h = absurd (not-suc-le-zero h)
+  getD-before (suc a) [] ys i h = refl
+  getD-before (suc a) (x ∷ xs) ys zero h = refl
+  getD-before (suc a) (x ∷ xs) ys (suc i) h = getD-before a xs ys i (le-of-suc-le-suc h)
+
+  zipAt-more : (a : ℕ) (xs ys : List ℕ) (j : ℕ) → j < length ys
+      → set (zipAt f a xs (take j ys)) (a + j) (f (getD (zipAt f a xs (take j ys)) (a + j) 0) (getD ys j 0)) ≡ zipAt f a xs (take (suc j) ys)
+  unfolding zipAt zipInto
+  zipAt-more zero xs ys j h = rw zero-add (zip-more f xs ys j h)
+  zipAt-more (suc a) [] ys j h = refl
+  zipAt-more (suc a) (x ∷ xs) ys j h = rw suc-add (ap (λ (l : List ℕ). x ∷ l) (zipAt-more a xs ys j h))
+
+  -- the two steps of a loop over n places from place a on
+  module _ (a : ℕ) (xs ys s : List ℕ) (j n : ℕ) (l : length ys ≡ n) (inv : s ≡ zipAt f a xs (take j ys)) where
+    pub zipAt-again : (v : ℕ) → j < n → v ≡ getD ys j 0 → set s (a + j) (f (getD s (a + j) 0) v) ≡ zipAt f a xs (take (suc j) ys)
+    zipAt-again v h e =
+        ap₂ (λ (t : List ℕ) (w : ℕ). set t (a + j) (f (getD t (a + j) 0) w)) inv e ∙ zipAt-more a xs ys j (omega arith)
+
+    pub zipAt-end : n ≤ j → s ≡ zipAt f a xs ys
+    zipAt-end h = inv ∙ ap (zipAt f a xs) (take-all j ys (omega arith))
+
+pub tabulate-words : (n : ℕ) (f : ℕ → ℕ) → ((i : ℕ) → f i < 2 ^ 64) → AllWords (tabulate n f)
+unfolding tabulate
+tabulate-words zero f h = none-words
+tabulate-words (suc n) f h = cons-words (f zero) (tabulate n (λ i. f (suc i))) (h zero) (tabulate-words n (λ i. f (suc i)) (λ i. h (suc i)))
+
+-- ---- words put one after another from a place on
+
+-- the first word put by itself
+put-suc : (a : ℕ) (xs : List ℕ) (v : ℕ) (ys : List ℕ) → zipAt (λ x y. y) a xs (v ∷ ys) ≡ zipAt (λ x y. y) (suc a) (set xs a v) ys
+unfolding zipAt zipInto
+put-suc zero [] v ys = refl
+put-suc zero (x ∷ xs) v ys = refl
+put-suc (suc a) [] v ys = refl
+put-suc (suc a) (x ∷ xs) v ys = ap (λ (l : List ℕ). x ∷ l) (put-suc a xs v ys)
+
+pub put-cons : (a : ℕ) (xs : List ℕ) (v : ℕ) (ys : List ℕ) → zipAt (λ x y. y) a xs (v ∷ ys) ≡ zipAt (λ x y. y) (a + 1) (set xs a v) ys
+put-cons a xs v ys = rw add-one (put-suc a xs v ys)
+
+pub put-append : (a : ℕ) (xs ys zs : List ℕ)
+    → zipAt (λ x y. y) a xs (ys ++ zs) ≡ zipAt (λ x y. y) (a + length ys) (zipAt (λ x y. y) a xs ys) zs
+put-append a xs [] zs =
+    ap₂ (λ (n : ℕ) (l : List ℕ). zipAt (λ x y. y) n l zs) (sym (add-zero a)) (sym (zipAt-none (λ x y. y) a xs))
+put-append a xs (y ∷ ys) zs =
+    put-suc a xs y (ys ++ zs) ∙ put-append (suc a) (set xs a y) ys zs
+    ∙ ap₂ (λ (n : ℕ) (l : List ℕ). zipAt (λ x y. y) n l zs) (suc-add a (length ys) ∙ sym (add-suc a (length ys))) (sym (put-suc a xs y ys))
+
+-- the last word put by itself
+pub put-snoc : (a : ℕ) (xs ys : List ℕ) (v : ℕ) → zipAt (λ x y. y) a xs (ys ++ (v ∷ [])) ≡ set (zipAt (λ x y. y) a xs ys) (a + length ys) v
+put-snoc a xs ys v =
+    put-append a xs ys (v ∷ []) ∙ put-suc (a + length ys) (zipAt (λ x y. y) a xs ys) v []
+    ∙ zipAt-none (λ x y. y) (suc (a + length ys)) (set (zipAt (λ x y. y) a xs ys) (a + length ys) v)

@@ -1,2 +1,3 @@
 -- Lists of words, place by place: the vocabulary that the crates above share.
 pub mod Zip
+pub mod Loop

@@ -1,6 +1,7 @@
 -- Lists of words, place by place.
 use Prim.Native.Nat.{ℕ, zero, suc}
-use mathlib.Core.List.{List, [], _∷_}
+use mathlib.Core.List.{List, [], _∷_, _++_}
+use lib.ListN.{take, drop}
 use lib.Bits.{bitXor}
 
 -- f place by place; the first list keeps what it has beyond the second
@@ -16,6 +17,10 @@ xorInto = zipInto bitXor
 -- words put in place of the first words of a list
 abbrev pub putInto : List ℕ → List ℕ → List ℕ
 putInto = zipInto (λ x y. y)
+
+-- f place by place from place a on; what stands before and after is kept
+unfoldable pub zipAt : (ℕ → ℕ → ℕ) → ℕ → List ℕ → List ℕ → List ℕ
+zipAt f a xs ys = take a xs ++ zipInto f (drop a xs) ys
 
 -- the list of f 0, f 1, .., f (n - 1)
 unfoldable pub tabulate : ℕ → (ℕ → ℕ) → List ℕ

@@ -1,0 +1,40 @@
+-- `pick_columns` meets its contract: words 4 and 6 of the state are words 4 and 6 of the output. Assumes nothing.
+use mathlib.Core.Path.{_≡_}
+use native.Mathlib.Omega.{arith}
+use denote.Ref.{now}
+use Rattle.sponge.proofs.Output.{getD-rand}
+use Rattle.columns.specs.Columns.{picks}
+use borrow.Author.Needs.{needs}
+use Rattle.columns.proofs.pick_columns.Statement.{statement}
+use Rattle.columns.proofs.pick_columns.Tie as tie
+use Rattle.columns.proofs.pick_columns.Reads as reads
+use Rattle.columns.proofs.pick_columns.Lts as lts
+use Rattle.columns.proofs.picked.Reads as picked-reads
+
+element-copy-out-picked : tie.Need-element-copy-out-picked
+element-copy-out-picked c = search needs
+
+picked-requires : tie.Need-picked-requires
+picked-requires c κs = search needs
+
+element-copy-out-picked-2 : tie.Need-element-copy-out-picked-2
+element-copy-out-picked-2 c = search needs
+
+picked-requires-2 : tie.Need-picked-requires-2
+picked-requires-2 c κs = search needs
+
+returns : tie.Need-returns
+unfolding picks
+returns c =
+    let s = now (c .before .before .before .before .args .s) in
+    (cc (getD-rand s 4 (omega arith), getD-rand s 6 (omega arith)), c .before .before .picked .ensures .1, c .picked2 .ensures .1)
+
+pub pick-columns-spec : {M : Type 1} → statement M
+pick-columns-spec =
+    tie.close
+    (tie.spec
+    element-copy-out-picked
+    picked-requires
+    element-copy-out-picked-2
+    picked-requires-2
+    returns)

@@ -1,0 +1,4 @@
+-- What Setup and Wandering do in one column.
+pub mod Settings
+pub mod Columns
+pub mod Bounds

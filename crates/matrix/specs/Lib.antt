@@ -1,0 +1,2 @@
+-- The lent matrix as cells of twelve words.
+pub mod Cells

@@ -1,0 +1,80 @@
+// The lent matrix: its cells, and what is written to them from the sponge's output.
+ghost use mathlib.Core.Path.{_≡_};
+ghost use Prim.Native.Nat.{_+_, _*_, _≤_, _<_, _^_};
+ghost use lib.ListN.{length};
+ghost use lib.Bits.{bitXor};
+ghost use Rattle.lists.specs.Zip.{zipAt, xorInto};
+ghost use Rattle.sponge.specs.Sponge.{rand};
+ghost use Rattle.matrix.specs.Cells.{place, cellFrom, cellAt, rotated};
+
+// Rows and columns count different things; neither can be given where the other belongs.
+pub struct Row(pub usize);
+
+pub struct Column(pub usize);
+
+// The first word of a cell.
+pub fn cell_start(row: Row, col: Column, columns: usize) -> usize
+    requires { ⌜ place columns (row .0) (col .0) < 2 ^ 64 ⌝ }
+    ensures { λ r. ⌜ r ≡ place columns (row .0) (col .0) ⌝ }
+{
+    12 * (row.0 * columns + col.0)
+}
+
+// The twelve words of a cell, as a part of the matrix.
+pub fn cell(m: &[u64], row: Row, col: Column, columns: usize) -> &[u64]
+    requires { ⌜ place columns (row .0) (col .0) + 12 ≤ length (now m) ⌝ }
+    ensures { λ r. ⌜ now r ≡ cellAt columns (row .0) (col .0) (now (m .entry)) ⌝ }
+    ensures { λ r. ⌜ length (now r) ≡ 12 ⌝ }
+{
+    let a = cell_start(row, col, columns);
+    let e = a + 12;
+    &m[a..e]
+}
+
+// The output written to the cell that starts at a.
+pub fn put_output(m: &mut [u64], a: usize, s: &[u64; 16])
+    requires { ⌜ a + 12 ≤ length (now m) ⌝ }
+    ensures { λ _. ⌜ now (m .exit) ≡ zipAt (λ x y. y) a (now (m .entry)) (rand (now (s .entry))) ⌝ }
+{
+    let mut j = 0;
+    while j < 12 {
+        m[a + j] = s[j];
+        j += 1;
+    }
+}
+
+// The cell that starts at a, XORed with the output, written to the later cell that starts at b.
+pub fn put_xored(m: &mut [u64], a: usize, b: usize, s: &[u64; 16])
+    requires { ⌜ (a + 12 ≤ b) × (b + 12 ≤ length (now m)) ⌝ }
+    ensures { λ _. ⌜ now (m .exit) ≡ zipAt (λ x y. y) b (now (m .entry)) (xorInto (cellFrom a (now (m .entry))) (rand (now (s .entry)))) ⌝ }
+{
+    let mut j = 0;
+    while j < 12 {
+        m[b + j] = m[a + j] ^ s[j];
+        j += 1;
+    }
+}
+
+// The output XORed into the cell that starts at a.
+pub fn xor_output(m: &mut [u64], a: usize, s: &[u64; 16])
+    requires { ⌜ a + 12 ≤ length (now m) ⌝ }
+    ensures { λ _. ⌜ now (m .exit) ≡ zipAt bitXor a (now (m .entry)) (rand (now (s .entry))) ⌝ }
+{
+    let mut j = 0;
+    while j < 12 {
+        m[a + j] = m[a + j] ^ s[j];
+        j += 1;
+    }
+}
+
+// The output, rotated by two words, XORed into the cell that starts at a.
+pub fn xor_rotated(m: &mut [u64], a: usize, s: &[u64; 16])
+    requires { ⌜ a + 12 ≤ length (now m) ⌝ }
+    ensures { λ _. ⌜ now (m .exit) ≡ zipAt bitXor a (now (m .entry)) (rotated 2 (rand (now (s .entry)))) ⌝ }
+{
+    let mut j = 0;
+    while j < 12 {
+        m[a + j] = m[a + j] ^ s[(j + 2) % 12];
+        j += 1;
+    }
+}

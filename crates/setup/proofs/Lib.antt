@@ -1,0 +1,2 @@
+-- The laws of Setup.
+pub mod RowBounds

@@ -1,0 +1,35 @@
+-- Where Setup's rows lie, in a form that is linear in row · C. Assumes nothing.
+use mathlib.Core.Path.{_≡_, sym, ap, subst, _∙_}
+use Prim.Native.Nat.{ℕ, suc, _+_, _*_, _-_, _≤_, _<_}
+use native.Mathlib.Omega.{arith}
+use native.Mathlib.Nat.{suc-mul, add-mul, mul-le-mul-right}
+use native.Mathlib.Numerals.{add-one}
+use Rattle.columns.specs.Bounds.{Earlier}
+use Rattle.setup_order.proofs.Windows.{row1-lt, prev1-lt}
+use Rattle.setup_order.specs.SetupOrder.{order}
+use Rattle.setup_order.specs.declared.Order.{Order}
+use Rattle.setup.specs.Setup.{rowsWith}
+
+-- a whole row more
+pub row-more : (k C : ℕ) → (k + 1) * C ≡ k * C + C
+row-more k C = rw add-one (suc-mul k C)
+
+-- a row ends where a later one begins or before
+pub row-before : (a b C : ℕ) → a < b → a * C + C ≤ b * C
+row-before a b C h = subst (λ (n : ℕ). n ≤ b * C) (suc-mul a C) (mul-le-mul-right C h)
+
+-- the first three rows and the others
+pub rows-split : (R C : ℕ) → 3 ≤ R → (R * C ≡ 3 * C + (R - 3) * C) × ((3 + (R - 3)) * C ≡ R * C)
+rows-split R C h =
+    let whole : 3 + (R - 3) ≡ R = omega arith in
+    let e = ap (λ (n : ℕ). n * C) whole in
+    (sym e ∙ add-mul 3 (R - 3) C, e)
+
+pub earlier : (k C : ℕ) (o : Order) → o ≡ order k → Earlier C (rowsWith k o)
+earlier k C o e =
+    subst (λ (p : Order). Earlier C (rowsWith k p)) (sym e)
+    (record {
+      row1 = row-before _ (3 + k) C (row1-lt k);
+      prev0 = row-before (2 + k) (3 + k) C (omega arith);
+      prev1 = row-before _ (3 + k) C (prev1-lt k);
+    })

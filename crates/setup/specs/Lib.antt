@@ -1,0 +1,2 @@
+-- Setup.
+pub mod Setup

@@ -1,0 +1,4 @@
+-- The laws of the order in which Setup revisits rows.
+pub mod OddSteps
+pub mod Windows
+pub mod Cases

@@ -1,0 +1,208 @@
+-- Where the order of Setup stands: each window is a power of two and its step is odd, so that row1 comes back to 0 only when as many
+-- rows as the window holds are filled. Assumes nothing.
+use mathlib.Core.Path.{_≡_, refl, sym, ap, ap₂, _∙_}
+use Prim.Native.Nat.{ℕ, zero, suc, _+_, _-_, _*_, _%_, _^_, _≤_, _<_}
+use native.Mathlib.Nat.{add-suc, pow-suc, suc-mul, zero-mod, zero-mul, mod-lt, mod-eq-of-lt, mod-add-mod, mul-mod-right, eq-or-lt-of-le}
+use native.Mathlib.Omega.{arith}
+use mathlib.Core.Bool.{Bool, true, false, cond, not}
+use lib.Pow.{pow-pos, pow-mono}
+use lib.Arith.{lt-of-le-ne}
+use lib.Dec.{eqb}
+use mathlib.Core.Logic.{⊎-elim}
+use borrow.Author.Tests.{eqb-true, eqb-false}
+use Rattle.setup_order.specs.declared.Order.{Order}
+use Rattle.setup_order.specs.SetupOrder.{Fits, firstOrder, moved, newWindow, nextOrder, order, row1Of}
+use Rattle.setup_order.proofs.OddSteps.{odd-cancel}
+
+-- with r = 2 ^ a: where gap is +1, wnd is 2·r² and stp is 2·r − 1; where it is −1, wnd is r² and stp is r + 1
+abbrev pub Shape : Bool → ℕ → ℕ → ℕ → Type 0
+Shape true a wnd stp = (wnd ≡ 2 ^ suc (a + a)) × (suc stp ≡ 2 ^ suc a)
+Shape false a wnd stp = (wnd ≡ 2 ^ (a + a)) × (stp ≡ suc (2 ^ a)) × (0 < a)
+
+-- the window of an order; sqrt is 2·r in both shapes
+pub record Window (o : Order) : Type 0 where
+  pub a : ℕ
+  pub sqrt-is : o .sqrt ≡ 2 ^ suc a
+  pub shape : Shape (o .rising) a (o .wnd) (o .stp)
+
+-- the order of the row row0: j rows were filled since the window began
+pub record AtRow (row0 : ℕ) (o : Order) : Type 0 where
+  pub window : Window o
+  pub j : ℕ
+  pub row0-is : row0 ≡ o .wnd + j
+  pub j-lt : j < o .wnd
+  pub row1-is : o .row1 ≡ (j * o .stp) % o .wnd
+  pub prev1-lt : o .prev1 < o .wnd
+
+-- what both shapes have
+pub record Numbers (wnd stp sqrt : ℕ) : Type 0 where
+  pub e : ℕ
+  pub wnd-is : wnd ≡ 2 ^ e
+  pub stp-odd : stp % 2 ≡ 1
+  pub stp-lt : stp < wnd
+  pub sqrt-pos : 0 < sqrt
+  pub sqrt-le : sqrt ≤ wnd
+
+shape-numbers : (b : Bool) (a wnd stp : ℕ) → Shape b a wnd stp → Numbers wnd stp (2 ^ suc a)
+shape-numbers true a wnd stp h =
+    let double = pow-suc 2 a in
+    let pos = pow-pos a in
+    let le : 2 ^ suc a ≤ 2 ^ suc (a + a) = pow-mono (omega arith) in
+    record {
+      e = suc (a + a);
+      wnd-is = h .0;
+      stp-odd = omega arith;
+      stp-lt = omega arith;
+      sqrt-pos = omega arith;
+      sqrt-le = omega arith;
+    }
+shape-numbers false zero wnd stp h = absurd (omega arith)
+shape-numbers false (suc a) wnd stp h =
+    let double = pow-suc 2 a in
+    let again = pow-suc 2 (suc a) in
+    let pos = pow-pos a in
+    let le : 2 ^ suc (suc a) ≤ 2 ^ (suc a + suc a) = pow-mono (omega arith) in
+    record {
+      e = suc a + suc a;
+      wnd-is = h .0;
+      stp-odd = omega arith;
+      stp-lt = omega arith;
+      sqrt-pos = omega arith;
+      sqrt-le = omega arith;
+    }
+
+pub numbers : {o : Order} → Window o → Numbers (o .wnd) (o .stp) (o .sqrt)
+numbers {o} w = rw (w .sqrt-is) (shape-numbers (o .rising) (w .a) (o .wnd) (o .stp) (w .shape))
+
+-- the exponent of the next window's root
+abbrev next-a : Bool → ℕ → ℕ
+next-a true a = suc a
+next-a false a = a
+
+next-sqrt : (b : Bool) (a sqrt : ℕ) → sqrt ≡ 2 ^ suc a → cond (not b) sqrt (2 * sqrt) ≡ 2 ^ suc (next-a b a)
+next-sqrt true a sqrt h = omega (arith, pow-suc 2 (suc a))
+next-sqrt false a sqrt h = h
+
+next-shape : (b : Bool) (a wnd stp sqrt : ℕ) → sqrt ≡ 2 ^ suc a → Shape b a wnd stp
+    → Shape (not b) (next-a b a) (2 * wnd) (cond b (sqrt + 1) (sqrt - 1))
+next-shape true a wnd stp sqrt s h =
+    let squared : 2 ^ (suc a + suc a) ≡ 2 ^ suc (a + a) * 2 = ap (λ (n : ℕ). 2 ^ n) (omega arith) ∙ pow-suc 2 (suc (a + a)) in
+    (omega arith, omega arith, omega arith)
+next-shape false a wnd stp sqrt s h = (omega (arith, pow-suc 2 (a + a)), omega (arith, pow-pos (suc a)))
+
+pub next-window : {o : Order} → Window o → Window (newWindow o)
+unfolding newWindow
+next-window {o} w =
+    record {
+      a = next-a (o .rising) (w .a);
+      sqrt-is = next-sqrt (o .rising) (w .a) (o .sqrt) (w .sqrt-is);
+      shape = next-shape (o .rising) (w .a) (o .wnd) (o .stp) (o .sqrt) (w .sqrt-is) (w .shape);
+    }
+
+pub row1-lt-wnd : {row0 : ℕ} {o : Order} → AtRow row0 o → o .row1 < o .wnd
+row1-lt-wnd {o = o} h = rw (h .row1-is) (mod-lt (h .j * o .stp) (omega (arith, h .j-lt)))
+
+-- one row more
+module _ {row0 : ℕ} {o : Order} (h : AtRow row0 o) where
+  row1-moves : moved o .row1 ≡ (suc (h .j) * o .stp) % o .wnd
+  unfolding moved
+  row1-moves =
+      ap (λ (n : ℕ). (n + o .stp) % o .wnd) (h .row1-is) ∙ mod-add-mod (h .j * o .stp) (o .wnd) (o .stp)
+      ∙ ap (λ (n : ℕ). n % o .wnd) (sym (suc-mul (h .j) (o .stp)))
+
+  -- row1 is back at 0 where the window is full, and only there
+  full : moved o .row1 ≡ 0 → suc (h .j) ≡ o .wnd
+  full z =
+      let n = numbers (h .window) in
+      let multiple : (suc (h .j) * o .stp) % 2 ^ n .e ≡ 0 = rw (n .wnd-is) at (sym row1-moves ∙ z) in
+      let none : suc (h .j) % o .wnd ≡ 0 = rw (n .wnd-is) (odd-cancel (n .e) (suc (h .j)) (o .stp) (n .stp-odd) multiple) in
+      ⊎-elim (λ eq. eq) (λ lt. absurd (omega (arith, none, mod-eq-of-lt lt))) (eq-or-lt-of-le (h .j-lt))
+
+  not-full : (moved o .row1 ≡ 0 → ⊥) → suc (h .j) < o .wnd
+  not-full nz =
+      lt-of-le-ne (h .j-lt) (λ eq. nz (row1-moves ∙ ap (λ (n : ℕ). (n * o .stp) % o .wnd) eq ∙ mul-mod-right (o .wnd) (o .stp)))
+
+  window-moves : Window (moved o)
+  unfolding moved
+  window-moves = record { a = h .window .a; sqrt-is = h .window .sqrt-is; shape = h .window .shape }
+
+  after : (t : Bool) → eqb (moved o .row1) 0 ≡ t → AtRow (suc row0) (cond t (newWindow (moved o)) (moved o))
+  unfolding moved newWindow
+  after true e =
+      let z : moved o .row1 ≡ 0 = eqb-true _ _ e in
+      record {
+        window = next-window window-moves;
+        j = 0;
+        row0-is = omega (arith, full z, h .row0-is);
+        j-lt = omega (arith, h .j-lt);
+        row1-is = z ∙ sym (ap (λ (n : ℕ). n % (2 * o .wnd)) (zero-mul _) ∙ zero-mod (2 * o .wnd));
+        prev1-lt = omega (arith, row1-lt-wnd h);
+      }
+  after false e =
+      record {
+        window = window-moves;
+        j = suc (h .j);
+        row0-is = omega (arith, h .row0-is);
+        j-lt = not-full (eqb-false _ _ e);
+        row1-is = row1-moves;
+        prev1-lt = row1-lt-wnd h;
+      }
+
+  pub next-at : AtRow (suc row0) (nextOrder o)
+  unfolding nextOrder
+  next-at = after (eqb (moved o .row1) 0) refl
+
+first-at : AtRow 3 firstOrder
+unfolding firstOrder
+first-at =
+    record {
+      window = record { a = 0; sqrt-is = refl; shape = (refl, refl) };
+      j = 1;
+      row0-is = refl;
+      j-lt = omega arith;
+      row1-is = refl;
+      prev1-lt = omega arith;
+    }
+
+pub order-at : (k : ℕ) → AtRow (3 + k) (order k)
+unfolding order
+order-at zero = first-at
+order-at (suc k) = rw add-suc (next-at (order-at k))
+
+-- ---- what callers use, of the order of row 3 + k
+
+pub wnd-le : (k : ℕ) → order k .wnd ≤ 3 + k
+wnd-le k = omega (arith, order-at k .row0-is)
+
+pub row1-lt : (k : ℕ) → order k .row1 < 3 + k
+row1-lt k = omega (arith, row1-lt-wnd (order-at k), wnd-le k)
+
+pub prev1-lt : (k : ℕ) → order k .prev1 < 3 + k
+prev1-lt k = omega (arith, order-at k .prev1-lt, wnd-le k)
+
+pub order-fits : (k : ℕ) → 3 + k ≤ 2 ^ 32 → Fits (order k)
+order-fits k h =
+    let at = order-at k in
+    let n = numbers (at .window) in
+    record {
+      wnd-pos = omega (arith, n .stp-lt);
+      wnd-fits = omega (arith, wnd-le k);
+      row1-lt = row1-lt-wnd at;
+      stp-lt = n .stp-lt;
+      sqrt-pos = n .sqrt-pos;
+      sqrt-le = n .sqrt-le;
+    }
+
+-- the same by the row's number, as a loop over rows steps
+pub order-next : (row0 : ℕ) → 3 ≤ row0 → order (row0 + 1 - 3) ≡ nextOrder (order (row0 - 3))
+unfolding order
+order-next row0 h =
+    let more : row0 + 1 - 3 ≡ suc (row0 - 3) = omega arith in
+    ap order more
+
+pub row-fits : (row0 : ℕ) → 3 ≤ row0 → row0 ≤ 2 ^ 32 → Fits (order (row0 - 3))
+row-fits row0 least most = order-fits (row0 - 3) (omega arith)
+
+pub row1Of-lt : (row0 : ℕ) → 3 ≤ row0 → row1Of row0 < row0
+unfolding row1Of
+row1Of-lt row0 h = omega (arith, row1-lt (row0 - 3))

@@ -1,0 +1,2 @@
+-- The order in which Setup revisits rows.
+pub mod SetupOrder

@@ -1,0 +1,2 @@
+-- The walk question.
+pub mod Question

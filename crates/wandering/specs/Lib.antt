@@ -1,0 +1,3 @@
+-- Wandering, and the record of its visits.
+pub mod Visits
+pub mod Encoding
