@@ -1,14 +1,13 @@
 -- The padded input is made of bytes, and absorbing it keeps states. Assumes nothing.
-use mathlib.Core.Path.{_≡_, refl, sym, ap, _∙_, subst}
-use Prim.Native.Nat.{ℕ, zero, suc, _+_, _*_, _≤_, _<_}
+use Prim.Native.Nat.{ℕ, zero, suc, _*_, _<_}
 use native.Mathlib.Omega.{arith}
 use mathlib.Core.List.{List, [], _∷_, _++_}
-use lib.ListN.{length, getD, drop, replicate}
-use Rattle.little_endian.specs.Bytes.{leEach, leWords}
+use lib.ListN.{length, drop, replicate}
+use Rattle.little_endian.specs.Bytes.{leEach}
 use Rattle.little_endian.proofs.ByteLaws.{AllBytes, append-bytes, each-bytes, drop-bytes, words-fit}
 use Rattle.permutation.specs.Inverse.{Addition}
 use Rattle.permutation.proofs.State.{IsState}
-use Rattle.sponge.specs.Profile.{fullRounds, start}
+use Rattle.sponge.specs.Profile.{fullRounds}
 use Rattle.sponge.proofs.Absorbing.{absorb-state, start-state}
 use Rattle.input.specs.Input.{unpadded, padding, missing, padded, blocks, block, absorbBlocks, absorbInput, absorbed}
 

@@ -1,5 +1,5 @@
 -- The padded input and its absorption.
-use Prim.Native.Nat.{ℕ, zero, suc, _+_, _-_, _*_, _/_, _%_}
+use Prim.Native.Nat.{ℕ, zero, suc, _+_, _-_, _*_, _/_, _%_, _^_, _<_}
 use mathlib.Core.List.{List, [], _∷_, _++_}
 use lib.ListN.{length, drop, replicate}
 use Rattle.little_endian.specs.Bytes.{leEach, leWords}
@@ -55,3 +55,7 @@ absorbInput sum password salt ns s =
 -- the state of a derivation once its input is absorbed
 unfoldable pub absorbed : (ℕ → ℕ → ℕ) → List ℕ → List ℕ → List ℕ → List ℕ
 absorbed sum password salt ns = absorbInput sum password salt ns start
+
+-- an input whose lengths are four-byte numbers, as that of every accepted call
+abbrev pub Short : ℕ → ℕ → ℕ → Type 0
+Short passwordLength saltLength count = passwordLength + saltLength + numberBytes * count < 2 ^ 32

@@ -1,14 +1,14 @@
 // The padded input, byte by byte as it is asked for, and its absorption. No copy of the password is
 // kept beyond the block that is being absorbed.
 use little_endian::byte_of;
+use little_endian::widened;
 use sponge::duplex::absorb_block;
 ghost use mathlib.Core.Path.{_≡_};
 ghost use Prim.Native.Nat.{_+_, _*_, _≤_, _<_};
-ghost use mathlib.Core.List.{[]};
-ghost use lib.ListN.{length, getD, take, drop, replicate};
+ghost use lib.ListN.{length, getD, take, drop};
 ghost use Rattle.permutation.specs.Word.{plainSum};
 ghost use Rattle.little_endian.specs.Bytes.{leValue, leEach};
-ghost use Rattle.input.specs.Input.{numbers, padding, padded, blocks, block, absorbInput};
+ghost use Rattle.input.specs.Input.{Short, numbers, padding, padded, blocks, block, absorbInput};
 
 const BLOCK_BYTES: usize = 64;
 
@@ -22,7 +22,7 @@ fn number_byte(numbers: &[u64], i: usize) -> u8
     byte_of(numbers[i / NUMBER_BYTES], i % NUMBER_BYTES)
 }
 
-// Byte i of n padded bytes. Where the only byte is padded it is the first and the last.
+// Byte i of n padded bytes. Where only one byte is padded, it is both the first and the last.
 fn padding_byte(n: usize, i: usize) -> u8
     requires { ⌜ 0 < n ⌝ }
     ensures { λ r. ⌜ r ≡ getD (padding n) i 0 ⌝ }
@@ -41,15 +41,15 @@ fn padding_byte(n: usize, i: usize) -> u8
 
 // How many blocks the padded input has.
 pub fn block_count(password: usize, salt: usize, numbers: usize) -> usize
-    requires { ⌜ (password ≤ 1024) × (salt ≤ 64) × (numbers ≤ 8) ⌝ }
+    requires { ⌜ Short password salt numbers ⌝ }
     ensures { λ r. ⌜ r ≡ blocks password salt numbers ⌝ }
 {
-    (password + salt + NUMBER_BYTES * numbers) / BLOCK_BYTES + 1
+    (password + salt + NUMBER_BYTES * numbers + BLOCK_BYTES) / BLOCK_BYTES
 }
 
 // Byte i of the padded input.
 fn input_byte(password: &[u8], salt: &[u8], numbers: &[u64], i: usize) -> u8
-    requires { ⌜ (length (now password) ≤ 1024) × (length (now salt) ≤ 64) × (length (now numbers) ≤ 8) ⌝ }
+    requires { ⌜ Short (length (now password)) (length (now salt)) (length (now numbers)) ⌝ }
     ensures { λ r. ⌜ r ≡ getD (padded (now (password .entry)) (now (salt .entry)) (now (numbers .entry))) i 0 ⌝ }
 {
     if i < password.len() {
@@ -68,15 +68,9 @@ fn input_byte(password: &[u8], salt: &[u8], numbers: &[u64], i: usize) -> u8
     padding_byte(BLOCK_BYTES - used % BLOCK_BYTES, k - n)
 }
 
-fn widened(b: u8) -> u64
-    ensures { λ r. ⌜ r ≡ b ⌝ }
-{
-    b as u64
-}
-
 // The word at byte `at` of the padded input.
 fn input_word(password: &[u8], salt: &[u8], numbers: &[u64], at: usize) -> u64
-    requires { ⌜ (length (now password) ≤ 1024) × (length (now salt) ≤ 64) × (length (now numbers) ≤ 8) × (at + 8 ≤ 64 * blocks (length (now password)) (length (now salt)) (length (now numbers))) ⌝ }
+    requires { ⌜ Short (length (now password)) (length (now salt)) (length (now numbers)) × (at + 8 ≤ 64 * blocks (length (now password)) (length (now salt)) (length (now numbers))) ⌝ }
     ensures { λ r. ⌜ r ≡ leValue (take 8 (drop at (padded (now (password .entry)) (now (salt .entry)) (now (numbers .entry))))) ⌝ }
 {
     let mut v: u64 = 0;
@@ -90,7 +84,7 @@ fn input_word(password: &[u8], salt: &[u8], numbers: &[u64], at: usize) -> u64
 
 // The words of block b of the padded input.
 fn fill_block(words: &mut [u64], password: &[u8], salt: &[u8], numbers: &[u64], b: usize)
-    requires { ⌜ (length (now password) ≤ 1024) × (length (now salt) ≤ 64) × (length (now numbers) ≤ 8) × (b < blocks (length (now password)) (length (now salt)) (length (now numbers))) × (length (now words) ≡ 8) ⌝ }
+    requires { ⌜ Short (length (now password)) (length (now salt)) (length (now numbers)) × (b < blocks (length (now password)) (length (now salt)) (length (now numbers))) × (length (now words) ≡ 8) ⌝ }
     ensures { λ _. ⌜ now (words .exit) ≡ block (padded (now (password .entry)) (now (salt .entry)) (now (numbers .entry))) b ⌝ }
 {
     let mut i = 0;
@@ -102,7 +96,7 @@ fn fill_block(words: &mut [u64], password: &[u8], salt: &[u8], numbers: &[u64], 
 
 // Absorbs the padded input for a list of numbers, and returns how many full calls were made.
 pub fn absorb_padded(s: &mut [u64; 16], password: &[u8], salt: &[u8], numbers: &[u64]) -> u64
-    requires { ⌜ (length (now password) ≤ 1024) × (length (now salt) ≤ 64) × (length (now numbers) ≤ 8) ⌝ }
+    requires { ⌜ Short (length (now password)) (length (now salt)) (length (now numbers)) ⌝ }
     ensures { λ r. ⌜ (now (s .exit) ≡ absorbInput plainSum (now (password .entry)) (now (salt .entry)) (now (numbers .entry)) (now (s .entry))) × (r ≡ blocks (length (now (password .entry))) (length (now (salt .entry))) (length (now (numbers .entry)))) ⌝ }
 {
     let n = block_count(password.len(), salt.len(), numbers.len());
@@ -130,7 +124,7 @@ pub fn absorb_input(
     r: usize,
     c: usize,
 ) -> u64
-    requires { ⌜ (length (now password) ≤ 1024) × (length (now salt) ≤ 64) ⌝ }
+    requires { ⌜ Short (length (now password)) (length (now salt)) 6 ⌝ }
     ensures { λ calls. ⌜ (now (s .exit) ≡ absorbInput plainSum (now (password .entry)) (now (salt .entry)) (numbers «key_length» (now (password .entry)) (now (salt .entry)) t r c) (now (s .entry))) × (calls ≡ blocks (length (now (password .entry))) (length (now (salt .entry))) 6) ⌝ }
 {
     let numbers = [

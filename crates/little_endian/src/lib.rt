@@ -4,7 +4,8 @@ ghost use Prim.Native.Nat.{_+_, _*_, _≤_, _<_};
 ghost use lib.ListN.{length, take, drop, getD};
 ghost use Rattle.little_endian.specs.Bytes.{leValue, leBytes, leWords};
 
-fn widened(b: u8) -> u64
+// A byte as a number.
+pub fn widened(b: u8) -> u64
     ensures { λ r. ⌜ r ≡ b ⌝ }
 {
     b as u64

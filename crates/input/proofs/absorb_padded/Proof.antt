@@ -1,12 +1,12 @@
 -- `absorb_padded` meets its contract. The loop's invariant: the first b blocks are absorbed, with a call each. Assumes nothing.
-use mathlib.Core.Path.{_≡_, refl, sym, ap, _∙_}
+use mathlib.Core.Path.{_≡_, refl, ap, _∙_}
 use Prim.Native.Nat.{_≤_, _-_}
 use native.Mathlib.Omega.{arith}
 use native.Mathlib.Numerals.{add-one}
 use lib.ListN.{length}
 use Rattle.little_endian.proofs.ByteLaws.{length-words}
 use Rattle.permutation.specs.Word.{plainSum}
-use Rattle.input.specs.Input.{padded, blocks, absorbBlocks, absorbInput}
+use Rattle.input.specs.Input.{padded, absorbBlocks, absorbInput}
 use Rattle.input.proofs.absorb_padded.Statement.{statement}
 use Rattle.input.proofs.absorb_padded.Tie as tie
 use Rattle.input.proofs.absorb_padded.Reads as reads

@@ -13,7 +13,7 @@ use Rattle.input.proofs.input_word.Tie as tie
 use Rattle.input.proofs.input_word.Reads as reads
 use Rattle.input.proofs.input_word.Lts as lts
 use Rattle.input.proofs.input_byte.Reads as input-byte-reads
-use Rattle.input.proofs.widened.Reads as widened-reads
+use Rattle.little_endian.proofs.widened.Reads as widened-reads
 
 abbrev Inv-loop : tie.InvT-loop
 Inv-loop password salt numbers at v₀ i₀ v i = (i ≤ 8) × (v ≡ from (padded password salt numbers) at i)

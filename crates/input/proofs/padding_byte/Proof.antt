@@ -1,7 +1,7 @@
 -- `padding_byte` meets its contract, by the law of each place. Assumes nothing.
 use mathlib.Core.Path.{_≡_, sym, ap, _∙_}
 use native.Mathlib.Omega.{arith}
-use Prim.Native.Nat.{ℕ, suc}
+use Prim.Native.Nat.{ℕ}
 use lib.ListN.{getD}
 use Rattle.input.specs.Input.{padding}
 use Rattle.input.proofs.Padded.{padding-only, padding-first, padding-last, padding-rest}

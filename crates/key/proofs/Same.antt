@@ -1,0 +1,66 @@
+-- The comparison of two lists of bytes: it holds exactly for equal lists, and the OR of the XORs of their bytes decides it.
+-- Assumes nothing.
+use mathlib.Core.Path.{_≡_, refl, sym, ap, ap₂, _∙_}
+use mathlib.Core.Bool.{Bool, true, false, _&&_, false≢true, and-eq-true-iff, and-true, and-assoc}
+use Prim.Native.Nat.{ℕ, zero, suc, _<_}
+use native.Mathlib.Nat.{not-suc-le-zero, le-of-suc-le-suc}
+use native.Mathlib.Omega.{arith}
+use mathlib.Core.List.{List, [], _∷_}
+use lib.ListN.{length, getD, take}
+use lib.Dec.{eqb, eqb·suc-zero}
+use lib.Bits.{bitOr, bitXor, or-zero-l, or-add-and, and-le-l, and-le-r, xor-add-and, xor-self}
+use borrow.Author.Tests.{eqb-true, eqb-false, eq-eqb, ne-eqb}
+use Rattle.key.specs.Key.{sameBytes}
+
+-- ---- sameBytes is equality
+
+pub same-of-equal : (xs : List ℕ) → sameBytes xs xs ≡ true
+unfolding sameBytes
+same-of-equal [] = refl
+same-of-equal (x ∷ xs) = ap₂ _&&_ (eq-eqb x x refl) (same-of-equal xs)
+
+pub equal-of-same : (xs ys : List ℕ) → sameBytes xs ys ≡ true → xs ≡ ys
+unfolding sameBytes
+equal-of-same [] [] e = refl
+equal-of-same [] (y ∷ ys) e = absurd (false≢true e)
+equal-of-same (x ∷ xs) [] e = absurd (false≢true e)
+equal-of-same (x ∷ xs) (y ∷ ys) e =
+    let h = and-eq-true-iff (eqb x y) (sameBytes xs ys) .0 e in
+    ap₂ (λ (a : ℕ) (l : List ℕ). a ∷ l) (eqb-true x y (h .0)) (equal-of-same xs ys (h .1))
+
+-- ---- a byte more
+
+same-more : (xs ys : List ℕ) (i : ℕ) → i < length xs → i < length ys
+    → sameBytes (take (suc i) xs) (take (suc i) ys) ≡ (sameBytes (take i xs) (take i ys) && eqb (getD xs i 0) (getD ys i 0))
+unfolding sameBytes
+same-more [] ys i hx hy = absurd (not-suc-le-zero hx)
+same-more (x ∷ xs) [] i hx hy = absurd (not-suc-le-zero hy)
+same-more (x ∷ xs) (y ∷ ys) zero hx hy = and-true (eqb x y)
+same-more (x ∷ xs) (y ∷ ys) (suc i) hx hy =
+    ap (λ (b : Bool). eqb x y && b) (same-more xs ys i (le-of-suc-le-suc hx) (le-of-suc-le-suc hy))
+    ∙ sym (and-assoc (eqb x y) (sameBytes (take i xs) (take i ys)) (eqb (getD xs i 0) (getD ys i 0)))
+
+-- ---- the bits that differ
+
+xor-decides : (x y : ℕ) (b : Bool) → eqb x y ≡ b → eqb (bitXor x y) 0 ≡ b
+xor-decides x y true e =
+    let equal = eqb-true x y e in
+    eq-eqb (bitXor x y) 0 (ap (bitXor x) (sym equal) ∙ xor-self x)
+xor-decides x y false e =
+    ne-eqb (bitXor x y) 0
+    (λ z. eqb-false x y e (omega (arith, z, xor-add-and x y, and-le-l x y, and-le-r x y)))
+
+or-decides : (d z : ℕ) → eqb (bitOr d z) 0 ≡ (eqb d 0 && eqb z 0)
+or-decides zero z = ap (λ (n : ℕ). eqb n 0) (or-zero-l z)
+or-decides (suc d) z =
+    ne-eqb (bitOr (suc d) z) 0 (λ e. omega (arith, e, or-add-and (suc d) z, and-le-r (suc d) z))
+    ∙ sym (ap (λ (b : Bool). b && eqb z 0) (eqb·suc-zero d))
+
+-- the step of a loop that gathers the bits in which the bytes so far differ
+pub difference-more : (xs ys : List ℕ) (i d : ℕ) → i < length xs → i < length ys
+    → eqb d 0 ≡ sameBytes (take i xs) (take i ys)
+    → eqb (bitOr d (bitXor (getD xs i 0) (getD ys i 0))) 0 ≡ sameBytes (take (suc i) xs) (take (suc i) ys)
+difference-more xs ys i d hx hy e =
+    or-decides d (bitXor (getD xs i 0) (getD ys i 0))
+    ∙ ap₂ _&&_ e (xor-decides (getD xs i 0) (getD ys i 0) (eqb (getD xs i 0) (getD ys i 0)) refl)
+    ∙ sym (same-more xs ys i hx hy)

@@ -1,0 +1,2 @@
+-- The key that a state gives, and its comparison with a stored one.
+pub mod Key

@@ -1,0 +1,107 @@
+// Squeezing the key out of a state, and comparing it with a stored one byte by byte as it comes.
+use little_endian::byte_of;
+use sponge::duplex::full_call;
+ghost use mathlib.Core.Path.{_≡_};
+ghost use Prim.Native.Nat.{_%_, _^_, _<_};
+ghost use lib.ListN.{length, getD};
+ghost use lib.Bits.{bitOr, bitXor};
+ghost use Rattle.permutation.specs.Word.{plainSum};
+ghost use Rattle.key.specs.Key.{fullCalls, piece, keyBytes, pieces, callsBetween, callsBefore, squeezed, sameBytes};
+
+const PIECE_BYTES: usize = 96;
+
+const WORD_BYTES: usize = 8;
+
+// How many pieces a key of so many bytes takes.
+pub fn piece_count(bytes: usize) -> usize
+    requires { ⌜ bytes < 2 ^ 32 ⌝ }
+    ensures { λ r. ⌜ r ≡ pieces bytes ⌝ }
+{
+    (bytes + PIECE_BYTES - 1) / PIECE_BYTES
+}
+
+// The full call between two pieces: it is made before the first byte of each piece but the first.
+fn call_between(s: &mut [u64; 16], i: usize) -> u64
+    ensures { λ r. ⌜ (now (s .exit) ≡ fullCalls plainSum (callsBefore i) (now (s .entry))) × (r ≡ callsBefore i) ⌝ }
+{
+    if i % PIECE_BYTES != 0 {
+        return 0;
+    }
+    if i == 0 {
+        return 0;
+    }
+    full_call(s);
+    1
+}
+
+// A byte of the output.
+fn output_byte(s: &[u64; 16], i: usize) -> u8
+    requires { ⌜ i < 96 ⌝ }
+    ensures { λ r. ⌜ r ≡ getD (piece (now (s .entry))) i 0 ⌝ }
+{
+    byte_of(s[i / WORD_BYTES], i % WORD_BYTES)
+}
+
+// A byte of the key, with the full calls that were made for it.
+struct Next {
+    byte: u8,
+    calls: u64,
+}
+
+// Byte i of the key, out of the state that the bytes before it left.
+fn next_byte(s: &mut [u64; 16], i: usize) -> Next
+    ensures { λ r. ⌜ (now (s .exit) ≡ fullCalls plainSum (callsBefore i) (now (s .entry))) × (r .byte ≡ getD (piece (now (s .exit))) (i % 96) 0) × (r .calls ≡ callsBefore i) ⌝ }
+{
+    let calls = call_between(s, i);
+    let byte = output_byte(s, i % PIECE_BYTES);
+    Next { byte, calls }
+}
+
+// Fills the whole key, and returns how many full calls were made.
+pub fn squeeze(s: &mut [u64; 16], key: &mut [u8]) -> u64
+    ensures { λ r. ⌜ (now (key .exit) ≡ keyBytes plainSum (length (now (key .entry))) (now (s .entry))) × (now (s .exit) ≡ squeezed plainSum (length (now (key .entry))) (now (s .entry))) × (r ≡ callsBetween (length (now (key .entry)))) ⌝ }
+{
+    let mut calls = 0;
+    let mut i = 0;
+    while i < key.len() {
+        let next = next_byte(s, i);
+        key[i] = next.byte;
+        calls += next.calls;
+        i += 1;
+    }
+    calls
+}
+
+// The bits in which stored bytes and the key differ, with those of byte i added.
+fn differing(difference: u8, stored: &[u8], i: usize, byte: u8) -> u8
+    requires { ⌜ i < length (now stored) ⌝ }
+    ensures { λ r. ⌜ r ≡ bitOr difference (bitXor (getD (now (stored .entry)) i 0) byte) ⌝ }
+{
+    difference | (stored[i] ^ byte)
+}
+
+// Whether a stored key is the key, with the full calls that were made to tell.
+pub struct Comparison {
+    pub same: bool,
+    pub calls: u64,
+}
+
+// Compares a stored key with the key of the same length, which is never stored. Every byte is
+// compared, so the time does not tell where the two differ.
+pub fn compare(s: &mut [u64; 16], stored: &[u8]) -> Comparison
+    ensures { λ r. ⌜ (r .same ≡ sameBytes (now (stored .entry)) (keyBytes plainSum (length (now (stored .entry))) (now (s .entry)))) × (now (s .exit) ≡ squeezed plainSum (length (now (stored .entry))) (now (s .entry))) × (r .calls ≡ callsBetween (length (now (stored .entry)))) ⌝ }
+{
+    let mut difference: u8 = 0;
+    let mut calls = 0;
+    let mut i = 0;
+    while i < stored.len() {
+        let next = next_byte(s, i);
+        difference = differing(difference, stored, i, next.byte);
+        calls += next.calls;
+        i += 1;
+    }
+    Comparison {
+        same: difference == 0,
+        calls,
+    }
+}
