@@ -67,10 +67,17 @@ loop-again c =
     let head = c .before .before .before .before .before .before .before .before .before .before in
     let a = head .before .before .before .args in
     let call = c .before .before .before .before .before .visit in
-    let v = head .loop in
-    (omega (arith, c .before .before .before .before .before .before .before .before .before .loop-test .taken), call .ensures .1, call .ensures .2, omega (arith, row-more (v .k) (a .columns)), omega (arith, row-more (v .k) (2 + 2 * a .columns)),
-    call .kept .1 .0 ∙ v .inv .5, call .kept .1 .1 .1 .1 .1 .1 .0 ∙ v .inv .6, wander-more _ _ _ _ _ _ _ (v .inv .7) (call .ensures .3),
-    visits-more profile (a .rows) (a .columns) _ (v .k) (v .at) _ (v .«record») _ (walk (work (v .s) (v .m)) (v .row0) (v .row1)) (v .inv .8) (v .inv .4) (v .inv .7) (call .ensures .4))
+    let v = head .loop in (
+      omega (arith, c .before .before .before .before .before .before .before .before .before .loop-test .taken),
+      call .ensures .1,
+      call .ensures .2,
+      omega (arith, row-more (v .k) (a .columns)),
+      omega (arith, row-more (v .k) (2 + 2 * a .columns)),
+      call .kept .1 .0 ∙ v .inv .5,
+      call .kept .1 .1 .1 .1 .1 .1 .0 ∙ v .inv .6,
+      wander-more _ _ _ _ _ _ _ (v .inv .7) (call .ensures .3),
+      visits-more profile (a .rows) (a .columns) _ (v .k) (v .at) _ (v .«record») _ (walk (work (v .s) (v .m)) (v .row0) (v .row1)) (v .inv .8) (v .inv .4) (v .inv .7) (call .ensures .4),
+    )
 
 same-length : tie.Need-same-length Inv-loop μ-loop
 same-length c = c .before .loop .inv .5

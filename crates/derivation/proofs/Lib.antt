@@ -1,0 +1,3 @@
+-- The laws of a derivation.
+pub mod Sizes
+pub mod Ends

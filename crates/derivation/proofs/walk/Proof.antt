@@ -1,0 +1,83 @@
+-- `walk` meets its contract: Setup, then the visits. Assumes nothing.
+use mathlib.Core.Path.{_≡_, ap, _∙_}
+use Prim.Native.Nat.{ℕ, _+_, _-_, _*_}
+use native.Mathlib.Omega.{arith}
+use mathlib.Core.List.{List}
+use denote.Ref.{now}
+use Rattle.lists.specs.Zip.{putInto}
+use Rattle.columns.specs.Settings.{profile}
+use Rattle.setup_order.proofs.Windows.{prev1-lt}
+use Rattle.wandering.specs.Visits.{Visit}
+use Rattle.wandering.specs.Encoding.{encode}
+use Rattle.derivation.proofs.Sizes.{visits-most, product-most, calls-sum}
+use Rattle.derivation.proofs.Ends.{walk-end, walk-visits}
+use borrow.Author.Needs.{needs}
+use Rattle.derivation.proofs.walk.Statement.{statement}
+use Rattle.derivation.proofs.walk.Tie as tie
+use Rattle.derivation.proofs.walk.Reads as reads
+use Rattle.derivation.proofs.walk.Lts as lts
+use Rattle.setup.proofs.set_up.Reads as set-up-reads
+use Rattle.wandering.proofs.wander.Reads as wander-reads
+
+set-up-requires : tie.Need-set-up-requires
+set-up-requires c κs = search needs
+
+sub-t17 : tie.Need-sub-t17
+sub-t17 c = search needs
+
+mul-wander : tie.Need-mul-wander
+mul-wander c =
+    let start = c .before .before .before .before .before .before .before .before .before in
+    let a = start .args in
+    omega (arith, visits-most (a .rows) (a .time) (start .pre .1) (start .pre .3))
+
+wander-requires : tie.Need-wander-requires
+wander-requires c κs =
+    let start = c .before .before .before .before .before .before .before .before .before .before in
+    let a = start .args in
+    let up = c .before .before .before .before .before .set-up in
+    let n = visits-most (a .rows) (a .time) (start .pre .1) (start .pre .3) in
+    (omega arith, omega (arith, up .ensures .0, prev1-lt (a .rows - 3)), omega (arith, up .kept .1 .0),
+    omega (arith, product-most (a .rows * a .time) (2 + 2 * a .columns) 4177920 514 n (omega arith)),
+    omega (arith, product-most (a .rows * a .time) (a .columns) 4177920 256 n (omega arith)))
+
+add-t23 : tie.Need-add-t23
+add-t23 c =
+    let start = c .before .before .before .before .before .before .before .before .before .before .before .before .before .before .before .before .before .before .before in
+    let a = start .args in
+    let up = c .before .before .before .before .before .before .before .before .before .before .before .before .before .before .set-up in
+    let v = c .before .before .before .before .before .before .before .before .wander in
+    let n = visits-most (a .rows) (a .time) (start .pre .1) (start .pre .3) in
+    omega
+    (arith, up .ensures .1, v .ensures .0, product-most (a .rows) (a .columns) 16384 256 (start .pre .1) (start .pre .2), product-most (a .rows * a .time) (a .columns) 4177920 256 n (start .pre .2))
+
+same-length : tie.Need-same-length
+same-length c = search needs
+
+same-length-2 : tie.Need-same-length-2
+same-length-2 c = search needs
+
+returns : tie.Need-returns
+returns c =
+    let start = c .before .before .before .before .before .before .before .before .before .before .before .before .before .before .before .before .before .before .before in
+    let a = start .args in
+    let up = c .before .before .before .before .before .before .before .before .before .before .before .before .before .before .set-up in
+    let v = c .before .before .before .before .before .before .before .before .wander in
+    let ew = up .ensures .2 in
+    let ep = up .ensures .0 in
+    (omega (arith, up .ensures .1, v .ensures .0, calls-sum (a .rows) (a .columns) (a .time)), v .ensures .1,
+    v .ensures .2 ∙ walk-end profile (a .time) (a .rows) (a .columns) (now (a .s)) (now (a .m)) _ _ ew ep,
+    v .ensures .3 ∙ ap (λ (vs : List Visit). putInto (now (a .«record»)) (encode vs)) (walk-visits profile (a .time) (a .rows) (a .columns) (now (a .s)) (now (a .m)) _ _ ew ep))
+
+pub walk-spec : {M : Type 1} → statement M
+walk-spec =
+    tie.close
+    (tie.spec
+    set-up-requires
+    sub-t17
+    mul-wander
+    wander-requires
+    add-t23
+    same-length
+    same-length-2
+    returns)
