@@ -1,12 +1,15 @@
 -- The walk's end, from what its parts leave. Assumes nothing.
-use mathlib.Core.Path.{_≡_, ap, ap₂}
+use mathlib.Core.Path.{_≡_, ap, ap₂, _∙_}
 use Prim.Native.Nat.{ℕ, _-_, _*_}
 use mathlib.Core.List.{List}
+use Rattle.sponge.specs.Profile.{fullRounds}
+use Rattle.sponge.specs.Sponge.{absorb}
+use Rattle.matrix.specs.Cells.{cellAt}
 use Rattle.columns.specs.Settings.{Settings, Work, work}
 use Rattle.setup_order.specs.SetupOrder.{order}
 use Rattle.setup.specs.Setup.{setup}
 use Rattle.wandering.specs.Visits.{Walk, walk, Visit, wander, visits}
-use Rattle.derivation.specs.Derivation.{setupEnd, walkEnd, walkVisits}
+use Rattle.derivation.specs.Derivation.{setupEnd, walkEnd, walkVisits, finalState}
 
 module _ (S : Settings) (T R C : ℕ) (s m : List ℕ) (w : Work) (p : ℕ) (ew : w ≡ setup S R C (work s m)) (ep : p ≡ order (R - 3) .prev1) where
   setup-end : walk w (R - 1) p ≡ setupEnd S R C s m
@@ -20,3 +23,10 @@ module _ (S : Settings) (T R C : ℕ) (s m : List ℕ) (w : Work) (p : ℕ) (ew 
   pub walk-visits : visits S R C (R * T) (walk w (R - 1) p) ≡ walkVisits S T R C s m
   unfolding walkVisits
   walk-visits = ap (visits S R C (R * T)) setup-end
+
+-- the last cell, absorbed after the walk
+pub final-state : (S : Settings) (C : ℕ) (w : Walk) (s m t : List ℕ) (row0 row1 : ℕ) → walk (work s m) row0 row1 ≡ w
+    → t ≡ absorb (S .sum) fullRounds (cellAt C row0 0 m) s → t ≡ finalState S C w
+unfolding finalState
+final-state S C w s m t row0 row1 e f =
+    f ∙ ap (λ (u : Walk). absorb (S .sum) fullRounds (cellAt C (u .prev0) 0 (u .done .matrix)) (u .done .state)) e

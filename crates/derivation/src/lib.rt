@@ -1,8 +1,9 @@
 // The operations that derive a key or foretell its cost.
-use columns::Rows;
+
 use matrix::Column;
 use matrix::Row;
 use matrix::cell;
+use sponge::duplex::absorb_cell;
 ghost use mathlib.Core.Path.{_≡_};
 ghost use Prim.Native.Nat.{_+_, _*_, _-_, _≤_, _<_, _^_};
 ghost use lib.ListN.{length};
@@ -10,7 +11,10 @@ ghost use Rattle.lists.specs.Zip.{putInto};
 ghost use Rattle.columns.specs.Settings.{profile, work};
 ghost use Rattle.wandering.specs.Visits.{walk};
 ghost use Rattle.wandering.specs.Encoding.{encode};
-ghost use Rattle.derivation.specs.Derivation.{walkEnd, walkVisits};
+ghost use Rattle.permutation.specs.Word.{plainSum};
+ghost use Rattle.input.specs.Input.{blocks, numbers, absorbInput};
+ghost use Rattle.derivation.specs.Cost.{reducedCost};
+ghost use Rattle.derivation.specs.Derivation.{walkEnd, walkVisits, finalState};
 
 // What an operation answers: 0 or the number of a refusal, and what was spent.
 pub struct Costs {
@@ -65,5 +69,36 @@ fn walk(
         row0,
         row1,
         calls: set.calls + v.calls,
+    }
+}
+
+// The calls that were made.
+struct Spent {
+    full: u64,
+    reduced: u64,
+}
+
+// From a state to the one that the key is squeezed from: the input, the walk, the last cell.
+fn run(
+    s: &mut [u64; 16],
+    password: &[u8],
+    salt: &[u8],
+    key_length: usize,
+    time: usize,
+    rows: usize,
+    columns: usize,
+    m: &mut [u64],
+) -> Spent
+    requires { ⌜ (length (now password) ≤ 1024) × (length (now salt) ≤ 64) × (3 ≤ rows) × (rows ≤ 16384) × (1 ≤ columns) × (columns ≤ 256) × (time ≤ 255) × (12 * (rows * columns) ≤ length (now m)) ⌝ }
+    ensures { λ r. ⌜ (r .full ≡ blocks (length (now (password .entry))) (length (now (salt .entry))) 6 + 1) × (r .reduced ≡ reducedCost time rows columns) × (now (s .exit) ≡ finalState profile columns (walkEnd profile time rows columns (absorbInput plainSum (now (password .entry)) (now (salt .entry)) (numbers «key_length» (now (password .entry)) (now (salt .entry)) time rows columns) (now (s .entry))) (now (m .entry)))) × (now (m .exit) ≡ walkEnd profile time rows columns (absorbInput plainSum (now (password .entry)) (now (salt .entry)) (numbers «key_length» (now (password .entry)) (now (salt .entry)) time rows columns) (now (s .entry))) (now (m .entry)) .done .matrix) ⌝ }
+{
+    let blocks = input::absorb_input(s, password, salt, key_length, time, rows, columns);
+    // A plain derivation lends the walk a record of no words.
+    let mut none: [u64; 0] = [];
+    let w = walk(s, m, time, rows, columns, &mut none);
+    absorb_cell(s, cell(m, w.row0, Column(0), columns));
+    Spent {
+        full: blocks + 1,
+        reduced: w.calls,
     }
 }

@@ -36,10 +36,13 @@ wander-requires c κs =
     let start = c .before .before .before .before .before .before .before .before .before .before in
     let a = start .args in
     let up = c .before .before .before .before .before .set-up in
-    let n = visits-most (a .rows) (a .time) (start .pre .1) (start .pre .3) in
-    (omega arith, omega (arith, up .ensures .0, prev1-lt (a .rows - 3)), omega (arith, up .kept .1 .0),
-    omega (arith, product-most (a .rows * a .time) (2 + 2 * a .columns) 4177920 514 n (omega arith)),
-    omega (arith, product-most (a .rows * a .time) (a .columns) 4177920 256 n (omega arith)))
+    let n = visits-most (a .rows) (a .time) (start .pre .1) (start .pre .3) in (
+      omega arith,
+      omega (arith, up .ensures .0, prev1-lt (a .rows - 3)),
+      omega (arith, up .kept .1 .0),
+      omega (arith, product-most (a .rows * a .time) (2 + 2 * a .columns) 4177920 514 n (omega arith)),
+      omega (arith, product-most (a .rows * a .time) (a .columns) 4177920 256 n (omega arith)),
+    )
 
 add-t23 : tie.Need-add-t23
 add-t23 c =
@@ -64,10 +67,12 @@ returns c =
     let up = c .before .before .before .before .before .before .before .before .before .before .before .before .before .before .set-up in
     let v = c .before .before .before .before .before .before .before .before .wander in
     let ew = up .ensures .2 in
-    let ep = up .ensures .0 in
-    (omega (arith, up .ensures .1, v .ensures .0, calls-sum (a .rows) (a .columns) (a .time)), v .ensures .1,
-    v .ensures .2 ∙ walk-end profile (a .time) (a .rows) (a .columns) (now (a .s)) (now (a .m)) _ _ ew ep,
-    v .ensures .3 ∙ ap (λ (vs : List Visit). putInto (now (a .«record»)) (encode vs)) (walk-visits profile (a .time) (a .rows) (a .columns) (now (a .s)) (now (a .m)) _ _ ew ep))
+    let ep = up .ensures .0 in (
+      omega (arith, up .ensures .1, v .ensures .0, calls-sum (a .rows) (a .columns) (a .time)),
+      v .ensures .1,
+      v .ensures .2 ∙ walk-end profile (a .time) (a .rows) (a .columns) (now (a .s)) (now (a .m)) _ _ ew ep,
+      v .ensures .3 ∙ ap (λ (vs : List Visit). putInto (now (a .«record»)) (encode vs)) (walk-visits profile (a .time) (a .rows) (a .columns) (now (a .s)) (now (a .m)) _ _ ew ep),
+    )
 
 pub walk-spec : {M : Type 1} → statement M
 walk-spec =
