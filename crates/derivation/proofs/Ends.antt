@@ -2,14 +2,17 @@
 use mathlib.Core.Path.{_≡_, ap, ap₂, _∙_}
 use Prim.Native.Nat.{ℕ, _-_, _*_}
 use mathlib.Core.List.{List}
-use Rattle.sponge.specs.Profile.{fullRounds}
+use Rattle.permutation.specs.Word.{plainSum}
+use Rattle.sponge.specs.Profile.{fullRounds, start}
 use Rattle.sponge.specs.Sponge.{absorb}
+use Rattle.input.specs.Input.{numbers, absorbInput, absorbed}
+use Rattle.key.specs.Key.{keyBytes}
 use Rattle.matrix.specs.Cells.{cellAt}
-use Rattle.columns.specs.Settings.{Settings, Work, work}
+use Rattle.columns.specs.Settings.{Settings, profile, Work, work}
 use Rattle.setup_order.specs.SetupOrder.{order}
 use Rattle.setup.specs.Setup.{setup}
 use Rattle.wandering.specs.Visits.{Walk, walk, Visit, wander, visits}
-use Rattle.derivation.specs.Derivation.{setupEnd, walkEnd, walkVisits, finalState}
+use Rattle.derivation.specs.Derivation.{setupEnd, walkEnd, walkVisits, finalState, inputState, inputEnd, keyOf, endMatrix}
 
 module _ (S : Settings) (T R C : ℕ) (s m : List ℕ) (w : Work) (p : ℕ) (ew : w ≡ setup S R C (work s m)) (ep : p ≡ order (R - 3) .prev1) where
   setup-end : walk w (R - 1) p ≡ setupEnd S R C s m
@@ -30,3 +33,19 @@ pub final-state : (S : Settings) (C : ℕ) (w : Walk) (s m t : List ℕ) (row0 r
 unfolding finalState
 final-state S C w s m t row0 row1 e f =
     f ∙ ap (λ (u : Walk). absorb (S .sum) fullRounds (cellAt C (u .prev0) 0 (u .done .matrix)) (u .done .state)) e
+
+-- ---- the ends of a derivation, for a state that is the starting one
+module _ (k : ℕ) (password salt : List ℕ) (T R C : ℕ) (m s₀ : List ℕ) (e : s₀ ≡ start) where
+  pub input-end : walkEnd profile T R C (absorbInput plainSum password salt (numbers k password salt T R C) s₀) m ≡ inputEnd profile k password salt T R C m
+  unfolding inputState absorbed
+  input-end = ap (λ (x : List ℕ). walkEnd profile T R C (absorbInput plainSum password salt (numbers k password salt T R C) x) m) e
+
+  module _ (final : List ℕ)
+      (f : final ≡ finalState profile C (walkEnd profile T R C (absorbInput plainSum password salt (numbers k password salt T R C) s₀) m)) where
+    pub key-end : keyBytes plainSum k final ≡ keyOf profile k password salt T R C m
+    unfolding keyOf
+    key-end = ap (keyBytes plainSum k) (f ∙ ap (finalState profile C) input-end)
+
+  pub matrix-end : walkEnd profile T R C (absorbInput plainSum password salt (numbers k password salt T R C) s₀) m .done .matrix ≡ endMatrix profile k password salt T R C m
+  unfolding endMatrix
+  matrix-end = ap (λ (w : Walk). w .done .matrix) input-end

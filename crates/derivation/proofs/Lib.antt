@@ -1,3 +1,4 @@
 -- The laws of a derivation.
 pub mod Sizes
 pub mod Ends
+pub mod Answering

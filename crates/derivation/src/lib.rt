@@ -1,9 +1,14 @@
 // The operations that derive a key or foretell its cost.
 
+use key::compare;
+use key::squeeze;
 use matrix::Column;
 use matrix::Row;
 use matrix::cell;
+use refusals::cost_refusal;
+use refusals::plain_refusal;
 use sponge::duplex::absorb_cell;
+use sponge::profile::Profile;
 ghost use mathlib.Core.Path.{_≡_};
 ghost use Prim.Native.Nat.{_+_, _*_, _-_, _≤_, _<_, _^_};
 ghost use lib.ListN.{length};
@@ -13,8 +18,12 @@ ghost use Rattle.wandering.specs.Visits.{walk};
 ghost use Rattle.wandering.specs.Encoding.{encode};
 ghost use Rattle.permutation.specs.Word.{plainSum};
 ghost use Rattle.input.specs.Input.{blocks, numbers, absorbInput};
+ghost use Rattle.refusals.specs.Checks.{first, costChecks, plainChecks};
+ghost use Rattle.refusals.proofs.Accepted.{Bounds, PlainBounds};
+ghost use Rattle.key.specs.Key.{sameBytes};
+ghost use Rattle.derivation.specs.Answers.{answered, spentOn, noCosts, costs, costAnswer, checked, checkAnswer};
 ghost use Rattle.derivation.specs.Cost.{reducedCost};
-ghost use Rattle.derivation.specs.Derivation.{walkEnd, walkVisits, finalState};
+ghost use Rattle.derivation.specs.Derivation.{walkEnd, walkVisits, finalState, keyOf, endMatrix};
 
 // What an operation answers: 0 or the number of a refusal, and what was spent.
 pub struct Costs {
@@ -73,7 +82,7 @@ fn walk(
 }
 
 // The calls that were made.
-struct Spent {
+struct Calls {
     full: u64,
     reduced: u64,
 }
@@ -88,7 +97,7 @@ fn run(
     rows: usize,
     columns: usize,
     m: &mut [u64],
-) -> Spent
+) -> Calls
     requires { ⌜ (length (now password) ≤ 1024) × (length (now salt) ≤ 64) × (3 ≤ rows) × (rows ≤ 16384) × (1 ≤ columns) × (columns ≤ 256) × (time ≤ 255) × (12 * (rows * columns) ≤ length (now m)) ⌝ }
     ensures { λ r. ⌜ (r .full ≡ blocks (length (now (password .entry))) (length (now (salt .entry))) 6 + 1) × (r .reduced ≡ reducedCost time rows columns) × (now (s .exit) ≡ finalState profile columns (walkEnd profile time rows columns (absorbInput plainSum (now (password .entry)) (now (salt .entry)) (numbers «key_length» (now (password .entry)) (now (salt .entry)) time rows columns) (now (s .entry))) (now (m .entry)))) × (now (m .exit) ≡ walkEnd profile time rows columns (absorbInput plainSum (now (password .entry)) (now (salt .entry)) (numbers «key_length» (now (password .entry)) (now (salt .entry)) time rows columns) (now (s .entry))) (now (m .entry)) .done .matrix) ⌝ }
 {
@@ -97,8 +106,194 @@ fn run(
     let mut none: [u64; 0] = [];
     let w = walk(s, m, time, rows, columns, &mut none);
     absorb_cell(s, cell(m, w.row0, Column(0), columns));
-    Spent {
+    Calls {
         full: blocks + 1,
         reduced: w.calls,
     }
+}
+
+// The answer of a call that was carried out.
+fn spent(full: u64, reduced: u64) -> Costs
+    requires { ⌜ (full < 2 ^ 32) × (reduced < 2 ^ 32) ⌝ }
+    ensures { λ r. ⌜ r ≡ spentOn full reduced ⌝ }
+{
+    Costs {
+        refusal: 0,
+        full,
+        reduced,
+        rounds: 12 * full + reduced,
+    }
+}
+
+// The answer of a call that was turned down.
+fn refused(number: u32) -> Costs
+    ensures { λ r. ⌜ r ≡ noCosts number ⌝ }
+{
+    Costs {
+        refusal: number,
+        full: 0,
+        reduced: 0,
+        rounds: 0,
+    }
+}
+
+// The cost of a call that no check refuses.
+fn cost_accepted(
+    key: usize,
+    password: usize,
+    salt: usize,
+    time: usize,
+    rows: usize,
+    columns: usize,
+) -> Costs
+    requires { ⌜ Bounds key password salt time rows columns ⌝ }
+    ensures { λ r. ⌜ r ≡ costs key password salt time rows columns ⌝ }
+{
+    let full = input::block_count(password, salt, 6) + key::piece_count(key);
+    let reduced = rows * columns * (time + 1);
+    spent(full as u64, reduced as u64)
+}
+
+// The cost question: what a derivation spends, from the lengths of key, password and salt, T, R and C.
+pub fn cost(
+    key: usize,
+    password: usize,
+    salt: usize,
+    time: usize,
+    rows: usize,
+    columns: usize,
+) -> Costs
+    ensures { λ r. ⌜ r ≡ costAnswer (first (costChecks key password salt time rows columns)) key password salt time rows columns ⌝ }
+{
+    let number = cost_refusal(key, password, salt, time, rows, columns);
+    if number != 0 {
+        return refused(number);
+    }
+    cost_accepted(key, password, salt, time, rows, columns)
+}
+
+// The plain derivation of a call that no check refuses.
+fn derive_accepted(
+    password: &[u8],
+    salt: &[u8],
+    time: usize,
+    rows: usize,
+    columns: usize,
+    key: &mut [u8],
+    matrix: &mut [u64],
+) -> Costs
+    requires { ⌜ PlainBounds (length (now key)) (length (now password)) (length (now salt)) time rows columns (length (now matrix)) ⌝ }
+    ensures { λ r. ⌜ (r ≡ costs (length (now (key .entry))) (length (now (password .entry))) (length (now (salt .entry))) time rows columns) × (now (key .exit) ≡ keyOf profile (length (now (key .entry))) (now (password .entry)) (now (salt .entry)) time rows columns (now (matrix .entry))) × (now (matrix .exit) ≡ endMatrix profile (length (now (key .entry))) (now (password .entry)) (now (salt .entry)) time rows columns (now (matrix .entry))) ⌝ }
+{
+    let mut s = Profile::start();
+    let calls = run(
+        &mut s,
+        password,
+        salt,
+        key.len(),
+        time,
+        rows,
+        columns,
+        matrix,
+    );
+    let between = squeeze(&mut s, key);
+    spent(calls.full + between, calls.reduced)
+}
+
+// The plain derivation: fills the key and the used matrix.
+pub fn derive(
+    password: &[u8],
+    salt: &[u8],
+    time: usize,
+    rows: usize,
+    columns: usize,
+    key: &mut [u8],
+    matrix: &mut [u64],
+) -> Costs
+    ensures { λ r. ⌜ r ≡ costAnswer (first (plainChecks (length (now (key .entry))) (length (now (password .entry))) (length (now (salt .entry))) time rows columns (length (now (matrix .entry))))) (length (now (key .entry))) (length (now (password .entry))) (length (now (salt .entry))) time rows columns ⌝ }
+    ensures { λ r. ⌜ now (key .exit) ≡ answered (first (plainChecks (length (now (key .entry))) (length (now (password .entry))) (length (now (salt .entry))) time rows columns (length (now (matrix .entry))))) (keyOf profile (length (now (key .entry))) (now (password .entry)) (now (salt .entry)) time rows columns (now (matrix .entry))) (now (key .entry)) ⌝ }
+    ensures { λ r. ⌜ now (matrix .exit) ≡ answered (first (plainChecks (length (now (key .entry))) (length (now (password .entry))) (length (now (salt .entry))) time rows columns (length (now (matrix .entry))))) (endMatrix profile (length (now (key .entry))) (now (password .entry)) (now (salt .entry)) time rows columns (now (matrix .entry))) (now (matrix .entry)) ⌝ }
+{
+    let number = plain_refusal(
+        key.len(),
+        password.len(),
+        salt.len(),
+        time,
+        rows,
+        columns,
+        matrix.len(),
+    );
+    if number != 0 {
+        return refused(number);
+    }
+    derive_accepted(password, salt, time, rows, columns, key, matrix)
+}
+
+// A check's answer, from the costs.
+fn answer_check(c: Costs, same: bool) -> Checked
+    ensures { λ r. ⌜ r ≡ checked c same ⌝ }
+{
+    Checked {
+        refusal: c.refusal,
+        same,
+        full: c.full,
+        reduced: c.reduced,
+        rounds: c.rounds,
+    }
+}
+
+// The check of a call that no check refuses.
+fn check_accepted(
+    password: &[u8],
+    salt: &[u8],
+    time: usize,
+    rows: usize,
+    columns: usize,
+    stored: &[u8],
+    matrix: &mut [u64],
+) -> Checked
+    requires { ⌜ PlainBounds (length (now stored)) (length (now password)) (length (now salt)) time rows columns (length (now matrix)) ⌝ }
+    ensures { λ r. ⌜ (r ≡ checked (costs (length (now (stored .entry))) (length (now (password .entry))) (length (now (salt .entry))) time rows columns) (sameBytes (now (stored .entry)) (keyOf profile (length (now (stored .entry))) (now (password .entry)) (now (salt .entry)) time rows columns (now (matrix .entry))))) × (now (matrix .exit) ≡ endMatrix profile (length (now (stored .entry))) (now (password .entry)) (now (salt .entry)) time rows columns (now (matrix .entry))) ⌝ }
+{
+    let mut s = Profile::start();
+    let calls = run(
+        &mut s,
+        password,
+        salt,
+        stored.len(),
+        time,
+        rows,
+        columns,
+        matrix,
+    );
+    let c = compare(&mut s, stored);
+    answer_check(spent(calls.full + c.calls, calls.reduced), c.same)
+}
+
+// The check: whether a stored key is the key of its length. The matrix is left as by the plain derivation.
+pub fn check(
+    password: &[u8],
+    salt: &[u8],
+    time: usize,
+    rows: usize,
+    columns: usize,
+    stored: &[u8],
+    matrix: &mut [u64],
+) -> Checked
+    ensures { λ r. ⌜ r ≡ checkAnswer (first (plainChecks (length (now (stored .entry))) (length (now (password .entry))) (length (now (salt .entry))) time rows columns (length (now (matrix .entry))))) (length (now (stored .entry))) (length (now (password .entry))) (length (now (salt .entry))) time rows columns (sameBytes (now (stored .entry)) (keyOf profile (length (now (stored .entry))) (now (password .entry)) (now (salt .entry)) time rows columns (now (matrix .entry)))) ⌝ }
+    ensures { λ r. ⌜ now (matrix .exit) ≡ answered (first (plainChecks (length (now (stored .entry))) (length (now (password .entry))) (length (now (salt .entry))) time rows columns (length (now (matrix .entry))))) (endMatrix profile (length (now (stored .entry))) (now (password .entry)) (now (salt .entry)) time rows columns (now (matrix .entry))) (now (matrix .entry)) ⌝ }
+{
+    let number = plain_refusal(
+        stored.len(),
+        password.len(),
+        salt.len(),
+        time,
+        rows,
+        columns,
+        matrix.len(),
+    );
+    if number != 0 {
+        return answer_check(refused(number), false);
+    }
+    check_accepted(password, salt, time, rows, columns, stored, matrix)
 }

@@ -56,11 +56,13 @@ returns c =
     let a = c .before .before .before .before .before .before .before .before .before .before .before .before .before .before .before .before .args in
     let i = c .before .before .before .before .before .before .before .before .before .before .before .absorb-input in
     let w = c .before .before .before .before .before .before .before .walk in
-    let e = w .ensures .2 ∙ ap (λ (x : List ℕ). walkEnd profile (a .time) (a .rows) (a .columns) x (now (a .m))) (i .ensures .0) in
-    (ap (λ (n : ℕ). n + 1) (i .ensures .1), w .ensures .0,
-    final-state profile (a .columns) _ _ _ _ (w .result .row0 .0) (w .result .row1 .0) e
-    (c .absorb-cell .ensures ∙ ap (λ (l : List ℕ). absorb plainSum fullRounds l (w .last .0)) (c .before .cell .ensures .0)),
-    ap (λ (u : Walk). u .done .matrix) e)
+    let e = w .ensures .2 ∙ ap (λ (x : List ℕ). walkEnd profile (a .time) (a .rows) (a .columns) x (now (a .m))) (i .ensures .0) in (
+      ap (λ (n : ℕ). n + 1) (i .ensures .1),
+      w .ensures .0,
+      final-state profile (a .columns) _ _ _ _ (w .result .row0 .0) (w .result .row1 .0) e
+          (c .absorb-cell .ensures ∙ ap (λ (l : List ℕ). absorb plainSum fullRounds l (w .last .0)) (c .before .cell .ensures .0)),
+      ap (λ (u : Walk). u .done .matrix) e,
+    )
 
 pub run-spec : {M : Type 1} → statement M
 run-spec =

@@ -1,0 +1,58 @@
+-- `check` meets its contract: a refusal that touches nothing, or the comparison. Assumes nothing.
+use mathlib.Core.Path.{sym, _∙_}
+use denote.Ref.{now}
+use lib.ListN.{length}
+use Rattle.refusals.proofs.Accepted.{plain-bounds}
+use Rattle.derivation.proofs.Answering.{answered-yes, answered-no, check-no, check-yes}
+use borrow.Author.Needs.{needs}
+use Rattle.derivation.proofs.check.Statement.{statement}
+use Rattle.derivation.proofs.check.Tie as tie
+use Rattle.derivation.proofs.check.Reads as reads
+use Rattle.derivation.proofs.check.Lts as lts
+use Rattle.derivation.proofs.answer_check.Reads as answer-check-reads
+use Rattle.derivation.proofs.check_accepted.Reads as check-accepted-reads
+use Rattle.derivation.proofs.refused.Reads as refused-reads
+use Rattle.refusals.proofs.plain_refusal.Reads as plain-refusal-reads
+
+plain-refusal-requires : tie.Need-plain-refusal-requires
+plain-refusal-requires c κs = search needs
+
+refused-requires : tie.Need-refused-requires
+refused-requires c κs = search needs
+
+answer-check-requires : tie.Need-answer-check-requires
+answer-check-requires c κs = search needs
+
+returns : tie.Need-returns
+returns c =
+    let a = c .before .before .before .before .before .before .before .before .args in
+    let e = c .before .before .before .plain-refusal .ensures in
+    let taken = c .before .before .if1 .taken in
+    (check-no _ (length (now (a .stored))) (length (now (a .password))) (length (now (a .salt))) (a .time) (a .rows) (a .columns) _ _ _ _ e taken (c .before .refused .ensures) (c .answer-check .ensures), sym (answered-no _ _ _ (λ z. taken (e ∙ z))))
+
+check-accepted-requires : tie.Need-check-accepted-requires
+check-accepted-requires c κs =
+    let a = c .before .before .before .before .before .before .before .args in
+    plain-bounds (length (now (a .stored))) (length (now (a .password))) (length (now (a .salt))) (a .time) (a .rows) (a .columns) (length (now (a .matrix))) (sym (c .before .before .plain-refusal .ensures) ∙ c .before .if1 .left)
+
+same-length : tie.Need-same-length
+same-length c = search needs
+
+returns-2 : tie.Need-returns-2
+returns-2 c =
+    let a = c .before .before .before .before .before .before .before .before .before .before .args in
+    let yes-all = sym (c .before .before .before .before .before .plain-refusal .ensures) ∙ c .before .before .before .before .if1 .left in
+    let d = c .before .before .check-accepted in
+    (check-yes _ (length (now (a .stored))) (length (now (a .password))) (length (now (a .salt))) (a .time) (a .rows) (a .columns) _ _ yes-all (d .ensures .0), d .ensures .1 ∙ sym (answered-yes _ _ _ yes-all))
+
+pub check-spec : {M : Type 1} → statement M
+check-spec =
+    tie.close
+    (tie.spec
+    plain-refusal-requires
+    refused-requires
+    answer-check-requires
+    returns
+    check-accepted-requires
+    same-length
+    returns-2)
