@@ -1,14 +1,15 @@
 -- The two ways an answer goes, and the bounds of the counts. Assumes nothing.
-use mathlib.Core.Path.{_≡_, sym, ap, _∙_}
+use mathlib.Core.Path.{_≡_, sym, ap, ap₂, _∙_}
 use Prim.Native.Nat.{ℕ, _+_, _*_, _≤_, _<_, _^_}
 use native.Mathlib.Omega.{arith}
 use mathlib.Core.Bool.{Bool, false, cond}
+use native.Mathlib.Decide.{ℕ-discrete}
 use borrow.Author.Tests.{eq-eqb, ne-eqb}
 use Rattle.input.specs.Input.{blocks}
 use Rattle.key.specs.Key.{pieces, callsBetween}
 use Rattle.key.proofs.KeyLaws.{pieces-calls}
 use Rattle.refusals.proofs.Accepted.{Bounds, cells-most}
-use Rattle.derivation.specs.Answers.{answered, noCosts, costs, costAnswer, checked, checkAnswer}
+use Rattle.derivation.specs.Answers.{answered, spentOn, noCosts, costs, costAnswer, checked, checkAnswer}
 use Rattle.derivation.specs.declared.Costs.{Costs}
 use Rattle.derivation.specs.declared.Checked.{Checked}
 use Rattle.derivation.specs.Cost.{fullCost, reducedCost}
@@ -53,3 +54,38 @@ module _ (n k p s T R C : ℕ) (same : Bool) (r : Checked) where
   pub check-yes : n ≡ 0 → r ≡ checked (costs k p s T R C) same → r ≡ checkAnswer n k p s T R C same
   unfolding checkAnswer
   check-yes z f = f ∙ sym (answered-yes n _ _ z)
+
+-- ---- the fields of an answer
+
+-- by cases on the number
+answered-by : {A : Type 0} (n : ℕ) (a b c : A) → (n ≡ 0 → a ≡ c) → ((n ≡ 0 → ⊥) → b ≡ c) → answered n a b ≡ c
+answered-by n a b c f g = go (ℕ-discrete n 0)
+  where
+    go : Dec (n ≡ 0) → answered n a b ≡ c
+    go (yes z) = answered-yes n a b z ∙ f z
+    go (no h) = answered-no n a b h ∙ g h
+
+-- the first alternative may use that no check refused
+pub answered-inner : {A : Type 0} (n : ℕ) (a a′ b : A) → (n ≡ 0 → a ≡ a′) → answered n a b ≡ answered n a′ b
+answered-inner n a a′ b f =
+    answered-by n a b _ (λ z. f z ∙ sym (answered-yes n a′ b z)) (λ h. sym (answered-no n a′ b h))
+
+pub cost-refusal-is : (n k p s T R C : ℕ) → costAnswer n k p s T R C .refusal ≡ n
+unfolding costAnswer costs spentOn noCosts
+cost-refusal-is n k p s T R C = go (ℕ-discrete n 0)
+  where
+    go : Dec (n ≡ 0) → costAnswer n k p s T R C .refusal ≡ n
+    go (yes z) = ap (λ (c : Costs). c .refusal) (answered-yes n (costs k p s T R C) (noCosts n) z) ∙ sym z
+    go (no h) = ap (λ (c : Costs). c .refusal) (answered-no n (costs k p s T R C) (noCosts n) h)
+
+-- a check's answer is the costs' with yes or no
+pub check-split : (n k p s T R C : ℕ) (same : Bool) → checkAnswer n k p s T R C same ≡ checked (costAnswer n k p s T R C) (answered n same false)
+unfolding checkAnswer costAnswer
+check-split n k p s T R C same =
+    answered-by n _ _ _
+    (λ z. sym (ap₂ checked (answered-yes n (costs k p s T R C) (noCosts n) z) (answered-yes n same false z)))
+    (λ h. sym (ap₂ checked (answered-no n (costs k p s T R C) (noCosts n) h) (answered-no n same false h)))
+
+-- an equal number gives the same alternative
+pub answered-as : {A : Type 0} (n r : ℕ) (a b x : A) → x ≡ answered n a b → r ≡ n → x ≡ answered r a b
+answered-as n r a b x e f = e ∙ ap (λ (k : ℕ). answered k a b) (sym f)

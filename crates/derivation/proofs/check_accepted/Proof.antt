@@ -64,11 +64,12 @@ returns c =
     let r = c .before .before .before .before .before .before .before .before .run in
     let q = c .before .before .before .before .compare in
     let full = full-calls (length (now (a .stored))) (length (now (a .password))) (length (now (a .salt))) _ _ (bounds .key-pos) (r .ensures .0) (q .ensures .2) in
-    let s = c .before .before .before .before .before .before .before .before .before .before .before .start .ensures in
-    (c .answer-check .ensures
-    ∙ ap₂ checked (c .before .spent .ensures ∙ ap₂ spentOn full (r .ensures .1))
-    (q .ensures .0 ∙ ap (sameBytes (now (a .stored))) (key-end (length (now (a .stored))) (now (a .password)) (now (a .salt)) (a .time) (a .rows) (a .columns) (now (a .matrix)) _ s _ (r .ensures .2))),
-    r .ensures .3 ∙ matrix-end (length (now (a .stored))) (now (a .password)) (now (a .salt)) (a .time) (a .rows) (a .columns) (now (a .matrix)) _ s)
+    let s = c .before .before .before .before .before .before .before .before .before .before .before .start .ensures in (
+      c .answer-check .ensures
+          ∙ ap₂ checked (c .before .spent .ensures ∙ ap₂ spentOn full (r .ensures .1))
+          (q .ensures .0 ∙ ap (sameBytes (now (a .stored))) (key-end (length (now (a .stored))) (now (a .password)) (now (a .salt)) (a .time) (a .rows) (a .columns) (now (a .matrix)) _ s _ (r .ensures .2))),
+      r .ensures .3 ∙ matrix-end (length (now (a .stored))) (now (a .password)) (now (a .salt)) (a .time) (a .rows) (a .columns) (now (a .matrix)) _ s,
+    )
 
 pub check-accepted-spec : {M : Type 1} → statement M
 check-accepted-spec =

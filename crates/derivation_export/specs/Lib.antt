@@ -1,0 +1,2 @@
+-- What the exported functions leave in the words that they are lent for counts.
+pub mod Counts
