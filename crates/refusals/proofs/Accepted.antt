@@ -8,7 +8,7 @@ use mathlib.Core.Bool.{Bool, true, false, cond, _||_, true≢false}
 use mathlib.Core.List.{List, [], _∷_, _++_}
 use lib.Dec.{ltb, eqb}
 use borrow.Author.Tests.{ltb-false}
-use Rattle.refusals.specs.Checks.{Check, first, outside, costChecks, plainChecks, walkChecks, keyCheck, passwordCheck, saltCheck, timeCheck, rowsCheck, columnsCheck, matrixCheck, matrixWords, rowCheck}
+use Rattle.refusals.specs.Checks.{Check, first, outside, costChecks, plainChecks, walkChecks, keyCheck, passwordCheck, saltCheck, timeCheck, rowsCheck, columnsCheck, matrixCheck, matrixWords, recordedChecks, recordCheck, rowCheck}
 
 -- ---- one check
 
@@ -63,6 +63,15 @@ first-append-refuse [] ds h = absurd (h refl)
 first-append-refuse (c ∷ cs) ds h =
     same-cond (c .refuses) (c .number) (first (cs ++ ds)) (first cs)
     (λ e. first-append-refuse cs ds (λ z. h (ap (λ (b : Bool). cond b (c .number) (first cs)) e ∙ z)))
+
+-- one check more: what the code returns where an earlier check refused, and what where none did
+module _ (cs : List Check) (c : Check) (number : ℕ) (e : number ≡ first cs) where
+  pub more-refuse : (number ≡ 0 → ⊥) → number ≡ first (cs ++ (c ∷ []))
+  more-refuse h = e ∙ sym (first-append-refuse cs (c ∷ []) (λ z. h (e ∙ z)))
+
+  pub more-pass : Numbered cs → number ≡ 0 → (r : ℕ) → r ≡ cond (c .refuses) (c .number) 0 → r ≡ first (cs ++ (c ∷ []))
+  unfolding first
+  more-pass h z r f = f ∙ sym (first-append-pass cs (c ∷ []) h (sym e ∙ z))
 
 -- ---- what acceptance gives
 
@@ -132,6 +141,38 @@ plain-bounds k p s T R C m e = go (ℕ-discrete (first (costChecks k p s T R C))
         record {
           costs = cost-bounds k p s T R C z;
           room = ltb-false _ _ (first-passed (matrixCheck R C m) [] (omega arith) e7 .0);
+        }
+
+-- R·T and R·T·(2 + 2·C) within the limits
+pub visits-most : (T R : ℕ) → T ≤ 255 → R ≤ 16384 → R * T ≤ 4177920
+visits-most T R hT hR = le-trans (mul-le-mul hR hT) (omega arith)
+
+pub record-most : (T R C : ℕ) → T ≤ 255 → R ≤ 16384 → C ≤ 256 → R * T * (2 + 2 * C) ≤ 2147450880
+record-most T R C hT hR hC =
+    let n = visits-most T R hT hR in
+    let m : 2 + 2 * C ≤ 514 = omega arith in
+    le-trans (mul-le-mul n m) (omega arith)
+
+pub plain-numbered : (k p s T R C m : ℕ) → Numbered (plainChecks k p s T R C m)
+unfolding plainChecks costChecks
+plain-numbered k p s T R C m = omega arith
+
+-- the recorded derivation's checks: those of the plain one, and room for the record
+pub record RecordedBounds (k p s T R C m v : ℕ) : Type 0 where
+  pub plain : PlainBounds k p s T R C m
+  pub room : R * T * (2 + 2 * C) ≤ v
+
+pub recorded-bounds : (k p s T R C m v : ℕ) → first (recordedChecks k p s T R C m v) ≡ 0 → RecordedBounds k p s T R C m v
+unfolding recordedChecks
+recorded-bounds k p s T R C m v e = go (ℕ-discrete (first (plainChecks k p s T R C m)) 0)
+  where
+    go : Dec (first (plainChecks k p s T R C m) ≡ 0) → RecordedBounds k p s T R C m v
+    go (no n) = absurd (n (sym (first-append-refuse (plainChecks k p s T R C m) _ n) ∙ e))
+    go (yes z) =
+        let e8 = sym (first-append-pass (plainChecks k p s T R C m) (recordCheck T R C v ∷ []) (plain-numbered k p s T R C m) z) ∙ e in
+        record {
+          plain = plain-bounds k p s T R C m z;
+          room = ltb-false _ _ (first-passed (recordCheck T R C v) [] (omega arith) e8 .0);
         }
 
 pub record WalkBounds (R row0 : ℕ) : Type 0 where

@@ -62,5 +62,9 @@ costChecks k p s T R C =
 unfoldable pub plainChecks : ℕ → ℕ → ℕ → ℕ → ℕ → ℕ → ℕ → List Check
 plainChecks k p s T R C m = costChecks k p s T R C ++ (matrixCheck R C m ∷ [])
 
+-- the same and the words of the lent record
+unfoldable pub recordedChecks : ℕ → ℕ → ℕ → ℕ → ℕ → ℕ → ℕ → ℕ → List Check
+recordedChecks k p s T R C m v = plainChecks k p s T R C m ++ (recordCheck T R C v ∷ [])
+
 unfoldable pub walkChecks : ℕ → ℕ → List Check
 walkChecks R row0 = rowsCheck R ∷ rowCheck R row0 ∷ []

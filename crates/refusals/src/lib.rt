@@ -2,7 +2,7 @@
 ghost use mathlib.Core.Path.{_≡_};
 ghost use mathlib.Core.Bool.{cond};
 ghost use mathlib.Core.List.{List, [], _∷_};
-ghost use Rattle.refusals.specs.Checks.{first, outside as «is-outside», costChecks, plainChecks, walkChecks, timeCheck, rowsCheck, columnsCheck};
+ghost use Rattle.refusals.specs.Checks.{first, outside as «is-outside», costChecks, plainChecks, recordedChecks, walkChecks, timeCheck, rowsCheck, columnsCheck};
 
 pub const KEY_LENGTH: u32 = 1;
 
@@ -17,6 +17,8 @@ pub const ROW_COUNT: u32 = 5;
 pub const COLUMN_COUNT: u32 = 6;
 
 pub const MATRIX_LENGTH: u32 = 7;
+
+pub const RECORD_LENGTH: u32 = 8;
 
 pub const SETUP_ROW: u32 = 9;
 
@@ -92,6 +94,26 @@ pub fn plain_refusal(
         return number;
     }
     first_of(matrix < 12 * (rows * columns), MATRIX_LENGTH, 0)
+}
+
+// Checks 1 to 8, of the same and of the lent record's length.
+pub fn recorded_refusal(
+    key: usize,
+    password: usize,
+    salt: usize,
+    time: usize,
+    rows: usize,
+    columns: usize,
+    matrix: usize,
+    record: usize,
+) -> u32
+    ensures { λ r. ⌜ r ≡ first (recordedChecks key password salt time rows columns matrix «record») ⌝ }
+{
+    let number = plain_refusal(key, password, salt, time, rows, columns, matrix);
+    if number != 0 {
+        return number;
+    }
+    first_of(record < rows * time * (2 + 2 * columns), RECORD_LENGTH, 0)
 }
 
 // Check 5 alone, of R: what the walk program asks.

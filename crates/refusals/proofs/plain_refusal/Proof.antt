@@ -1,10 +1,9 @@
 -- `plain_refusal` meets its contract: the checks of the cost question, then that of the matrix. Assumes nothing.
-use mathlib.Core.List.{[], _∷_}
-use mathlib.Core.Path.{_≡_, refl, sym, _∙_}
+use mathlib.Core.Path.{sym, _∙_}
 use native.Mathlib.Omega.{arith}
-use Rattle.refusals.specs.Checks.{first, costChecks, plainChecks, matrixCheck}
-use Rattle.refusals.proofs.Accepted.{first-cons, first-append-refuse, first-append-pass, cost-bounds, cost-numbered, cells-most}
 use borrow.Author.Needs.{needs}
+use Rattle.refusals.specs.Checks.{costChecks, plainChecks, matrixCheck}
+use Rattle.refusals.proofs.Accepted.{more-refuse, more-pass, cost-bounds, cost-numbered, cells-most}
 use Rattle.refusals.proofs.plain_refusal.Statement.{statement}
 use Rattle.refusals.proofs.plain_refusal.Tie as tie
 use Rattle.refusals.proofs.plain_refusal.Reads as reads
@@ -19,8 +18,7 @@ returns : tie.Need-returns
 unfolding plainChecks
 returns c =
     let a = c .before .before .args in
-    let e = c .before .cost-refusal .ensures in
-    e ∙ sym (first-append-refuse (costChecks (a .key) (a .password) (a .salt) (a .time) (a .rows) (a .columns)) (matrixCheck (a .rows) (a .columns) (a .matrix) ∷ []) (λ z. c .if1 .taken (e ∙ z)))
+    more-refuse (costChecks (a .key) (a .password) (a .salt) (a .time) (a .rows) (a .columns)) (matrixCheck (a .rows) (a .columns) (a .matrix)) _ (c .before .cost-refusal .ensures) (c .if1 .taken)
 
 mul-first-of : tie.Need-mul-first-of
 mul-first-of c =
@@ -38,13 +36,10 @@ first-of-requires : tie.Need-first-of-requires
 first-of-requires c κs = search needs
 
 returns-2 : tie.Need-returns-2
-unfolding first plainChecks
+unfolding plainChecks
 returns-2 c =
-    let call = c .before .before in
-    let a = call .before .args in
-    let pass = sym (call .cost-refusal .ensures) ∙ c .before .if1 .left in
-    c .first-of .ensures ∙ first-cons (matrixCheck (a .rows) (a .columns) (a .matrix)) [] _ _ refl refl
-    ∙ sym (first-append-pass (costChecks (a .key) (a .password) (a .salt) (a .time) (a .rows) (a .columns)) (matrixCheck (a .rows) (a .columns) (a .matrix) ∷ []) (cost-numbered (a .key) (a .password) (a .salt) (a .time) (a .rows) (a .columns)) pass)
+    let a = c .before .before .before .args in
+    more-pass (costChecks (a .key) (a .password) (a .salt) (a .time) (a .rows) (a .columns)) (matrixCheck (a .rows) (a .columns) (a .matrix)) _ (c .before .before .cost-refusal .ensures) (cost-numbered (a .key) (a .password) (a .salt) (a .time) (a .rows) (a .columns)) (c .before .if1 .left) _ (c .first-of .ensures)
 
 pub plain-refusal-spec : {M : Type 1} → statement M
 plain-refusal-spec =

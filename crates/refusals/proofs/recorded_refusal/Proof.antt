@@ -1,0 +1,67 @@
+-- `recorded_refusal` meets its contract: the checks of the plain derivation, then that of the record. Assumes nothing.
+use mathlib.Core.Path.{sym, _∙_}
+use native.Mathlib.Omega.{arith}
+use borrow.Author.Needs.{needs}
+use Rattle.refusals.specs.Checks.{plainChecks, recordedChecks, recordCheck}
+use Rattle.refusals.proofs.Accepted.{more-refuse, more-pass, plain-bounds, plain-numbered, record-most, visits-most}
+use Rattle.refusals.proofs.recorded_refusal.Statement.{statement}
+use Rattle.refusals.proofs.recorded_refusal.Tie as tie
+use Rattle.refusals.proofs.recorded_refusal.Reads as reads
+use Rattle.refusals.proofs.recorded_refusal.Lts as lts
+use Rattle.refusals.proofs.first_of.Reads as first-of-reads
+use Rattle.refusals.proofs.plain_refusal.Reads as plain-refusal-reads
+
+plain-refusal-requires : tie.Need-plain-refusal-requires
+plain-refusal-requires c κs = search needs
+
+returns : tie.Need-returns
+unfolding recordedChecks
+returns c =
+    let a = c .before .before .args in
+    more-refuse (plainChecks (a .key) (a .password) (a .salt) (a .time) (a .rows) (a .columns) (a .matrix)) (recordCheck (a .time) (a .rows) (a .columns) (a .«record»)) _ (c .before .plain-refusal .ensures) (c .if1 .taken)
+
+mul-first-of : tie.Need-mul-first-of
+mul-first-of c =
+    let a = c .before .before .args in
+    let bounds = plain-bounds (a .key) (a .password) (a .salt) (a .time) (a .rows) (a .columns) (a .matrix) (sym (c .before .plain-refusal .ensures) ∙ c .if1 .left) .costs in
+    omega (arith, visits-most (a .time) (a .rows) (bounds .time-most) (bounds .rows-most))
+
+mul-first-of-2 : tie.Need-mul-first-of-2
+mul-first-of-2 c =
+    let a = c .before .before .args in
+    let bounds = plain-bounds (a .key) (a .password) (a .salt) (a .time) (a .rows) (a .columns) (a .matrix) (sym (c .before .plain-refusal .ensures) ∙ c .if1 .left) .costs in
+    omega arith
+
+add-first-of : tie.Need-add-first-of
+add-first-of c =
+    let a = c .before .before .args in
+    let bounds = plain-bounds (a .key) (a .password) (a .salt) (a .time) (a .rows) (a .columns) (a .matrix) (sym (c .before .plain-refusal .ensures) ∙ c .if1 .left) .costs in
+    omega arith
+
+mul-first-of-3 : tie.Need-mul-first-of-3
+mul-first-of-3 c =
+    let a = c .before .before .args in
+    let bounds = plain-bounds (a .key) (a .password) (a .salt) (a .time) (a .rows) (a .columns) (a .matrix) (sym (c .before .plain-refusal .ensures) ∙ c .if1 .left) .costs in
+    omega (arith, record-most (a .time) (a .rows) (a .columns) (bounds .time-most) (bounds .rows-most) (bounds .columns-most))
+
+first-of-requires : tie.Need-first-of-requires
+first-of-requires c κs = search needs
+
+returns-2 : tie.Need-returns-2
+unfolding recordedChecks
+returns-2 c =
+    let a = c .before .before .before .args in
+    more-pass (plainChecks (a .key) (a .password) (a .salt) (a .time) (a .rows) (a .columns) (a .matrix)) (recordCheck (a .time) (a .rows) (a .columns) (a .«record»)) _ (c .before .before .plain-refusal .ensures) (plain-numbered (a .key) (a .password) (a .salt) (a .time) (a .rows) (a .columns) (a .matrix)) (c .before .if1 .left) _ (c .first-of .ensures)
+
+pub recorded-refusal-spec : {M : Type 1} → statement M
+recorded-refusal-spec =
+    tie.close
+    (tie.spec
+    plain-refusal-requires
+    returns
+    mul-first-of
+    mul-first-of-2
+    add-first-of
+    mul-first-of-3
+    first-of-requires
+    returns-2)
