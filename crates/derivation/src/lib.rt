@@ -17,6 +17,9 @@ ghost use Rattle.columns.specs.Settings.{profile, work};
 ghost use Rattle.wandering.specs.Visits.{walk};
 ghost use Rattle.wandering.specs.Encoding.{encode};
 ghost use Rattle.permutation.specs.Word.{plainSum};
+ghost use Rattle.sponge.specs.Profile.{fullRounds};
+ghost use Rattle.sponge.specs.Sponge.{absorb};
+ghost use Rattle.matrix.specs.Cells.{cellAt};
 ghost use Rattle.input.specs.Input.{blocks, numbers, absorbInput};
 ghost use Rattle.refusals.specs.Checks.{first, costChecks, plainChecks};
 ghost use Rattle.refusals.proofs.Accepted.{Bounds, PlainBounds};
@@ -81,14 +84,57 @@ fn walk(
     }
 }
 
+// What a run to the last visit leaves: its last rows, and the calls that were made.
+pub struct Ran {
+    pub row0: Row,
+    pub row1: Row,
+    pub full: u64,
+    pub reduced: u64,
+}
+
+// The input, Setup and the visits; the record gets the visits as far as it reaches.
+pub fn run(
+    s: &mut [u64; 16],
+    password: &[u8],
+    salt: &[u8],
+    key_length: usize,
+    time: usize,
+    rows: usize,
+    columns: usize,
+    m: &mut [u64],
+    record: &mut [u64],
+) -> Ran
+    requires { ⌜ (length (now password) ≤ 1024) × (length (now salt) ≤ 64) × (3 ≤ rows) × (rows ≤ 16384) × (columns ≤ 256) × (time ≤ 255) × (12 * (rows * columns) ≤ length (now m)) ⌝ }
+    ensures { λ r. ⌜ (r .full ≡ blocks (length (now (password .entry))) (length (now (salt .entry))) 6) × (r .reduced ≡ reducedCost time rows columns) × (r .row0 .0 < rows) × (walk (work (now (s .exit)) (now (m .exit))) (r .row0 .0) (r .row1 .0) ≡ walkEnd profile time rows columns (absorbInput plainSum (now (password .entry)) (now (salt .entry)) (numbers «key_length» (now (password .entry)) (now (salt .entry)) time rows columns) (now (s .entry))) (now (m .entry))) × (now («record» .exit) ≡ putInto (now («record» .entry)) (encode (walkVisits profile time rows columns (absorbInput plainSum (now (password .entry)) (now (salt .entry)) (numbers «key_length» (now (password .entry)) (now (salt .entry)) time rows columns) (now (s .entry))) (now (m .entry))))) ⌝ }
+{
+    let full = input::absorb_input(s, password, salt, key_length, time, rows, columns);
+    let w = walk(s, m, time, rows, columns, record);
+    let row0 = w.row0;
+    let row1 = w.row1;
+    Ran {
+        row0,
+        row1,
+        full,
+        reduced: w.calls,
+    }
+}
+
+// The last cell, absorbed with a full call.
+pub fn absorb_last(s: &mut [u64; 16], m: &[u64], row0: Row, columns: usize)
+    requires { ⌜ (1 ≤ columns) × (12 * (row0 .0 * columns + columns) ≤ length (now m)) ⌝ }
+    ensures { λ _. ⌜ now (s .exit) ≡ absorb plainSum fullRounds (cellAt columns (row0 .0) 0 (now (m .entry))) (now (s .entry)) ⌝ }
+{
+    absorb_cell(s, cell(m, row0, Column(0), columns));
+}
+
 // The calls that were made.
 struct Calls {
     full: u64,
     reduced: u64,
 }
 
-// From a state to the one that the key is squeezed from: the input, the walk, the last cell.
-fn run(
+// The run of a plain derivation, to the state that the key is squeezed from. It lends the visits a record of no words.
+fn run_plain(
     s: &mut [u64; 16],
     password: &[u8],
     salt: &[u8],
@@ -98,22 +144,30 @@ fn run(
     columns: usize,
     m: &mut [u64],
 ) -> Calls
-    requires { ⌜ (length (now password) ≤ 1024) × (length (now salt) ≤ 64) × (3 ≤ rows) × (rows ≤ 16384) × (1 ≤ columns) × (columns ≤ 256) × (time ≤ 255) × (12 * (rows * columns) ≤ length (now m)) ⌝ }
+    requires { ⌜ (1 ≤ columns) × (length (now password) ≤ 1024) × (length (now salt) ≤ 64) × (3 ≤ rows) × (rows ≤ 16384) × (columns ≤ 256) × (time ≤ 255) × (12 * (rows * columns) ≤ length (now m)) ⌝ }
     ensures { λ r. ⌜ (r .full ≡ blocks (length (now (password .entry))) (length (now (salt .entry))) 6 + 1) × (r .reduced ≡ reducedCost time rows columns) × (now (s .exit) ≡ finalState profile columns (walkEnd profile time rows columns (absorbInput plainSum (now (password .entry)) (now (salt .entry)) (numbers «key_length» (now (password .entry)) (now (salt .entry)) time rows columns) (now (s .entry))) (now (m .entry)))) × (now (m .exit) ≡ walkEnd profile time rows columns (absorbInput plainSum (now (password .entry)) (now (salt .entry)) (numbers «key_length» (now (password .entry)) (now (salt .entry)) time rows columns) (now (s .entry))) (now (m .entry)) .done .matrix) ⌝ }
 {
-    let blocks = input::absorb_input(s, password, salt, key_length, time, rows, columns);
-    // A plain derivation lends the walk a record of no words.
     let mut none: [u64; 0] = [];
-    let w = walk(s, m, time, rows, columns, &mut none);
-    absorb_cell(s, cell(m, w.row0, Column(0), columns));
+    let r = run(
+        s,
+        password,
+        salt,
+        key_length,
+        time,
+        rows,
+        columns,
+        m,
+        &mut none,
+    );
+    absorb_last(s, m, r.row0, columns);
     Calls {
-        full: blocks + 1,
-        reduced: w.calls,
+        full: r.full + 1,
+        reduced: r.reduced,
     }
 }
 
 // The answer of a call that was carried out.
-fn spent(full: u64, reduced: u64) -> Costs
+pub fn spent(full: u64, reduced: u64) -> Costs
     requires { ⌜ (full < 2 ^ 32) × (reduced < 2 ^ 32) ⌝ }
     ensures { λ r. ⌜ r ≡ spentOn full reduced ⌝ }
 {
@@ -126,7 +180,7 @@ fn spent(full: u64, reduced: u64) -> Costs
 }
 
 // The answer of a call that was turned down.
-fn refused(number: u32) -> Costs
+pub fn refused(number: u32) -> Costs
     ensures { λ r. ⌜ r ≡ noCosts number ⌝ }
 {
     Costs {
@@ -186,7 +240,7 @@ fn derive_accepted(
     ensures { λ r. ⌜ (r ≡ costs (length (now (key .entry))) (length (now (password .entry))) (length (now (salt .entry))) time rows columns) × (now (key .exit) ≡ keyOf profile (length (now (key .entry))) (now (password .entry)) (now (salt .entry)) time rows columns (now (matrix .entry))) × (now (matrix .exit) ≡ endMatrix profile (length (now (key .entry))) (now (password .entry)) (now (salt .entry)) time rows columns (now (matrix .entry))) ⌝ }
 {
     let mut s = Profile::start();
-    let calls = run(
+    let calls = run_plain(
         &mut s,
         password,
         salt,
@@ -256,7 +310,7 @@ fn check_accepted(
     ensures { λ r. ⌜ (r ≡ checked (costs (length (now (stored .entry))) (length (now (password .entry))) (length (now (salt .entry))) time rows columns) (sameBytes (now (stored .entry)) (keyOf profile (length (now (stored .entry))) (now (password .entry)) (now (salt .entry)) time rows columns (now (matrix .entry))))) × (now (matrix .exit) ≡ endMatrix profile (length (now (stored .entry))) (now (password .entry)) (now (salt .entry)) time rows columns (now (matrix .entry))) ⌝ }
 {
     let mut s = Profile::start();
-    let calls = run(
+    let calls = run_plain(
         &mut s,
         password,
         salt,
