@@ -2,3 +2,4 @@
 pub mod Words
 pub mod ZipLaws
 pub mod LoopLaws
+pub mod Parts

@@ -1,0 +1,36 @@
+-- Cells by their number: a change of one cell is a change of its twelve words, and of no other cell. Assumes nothing.
+use mathlib.Core.Path.{_≡_, ap, _∙_}
+use mathlib.Core.Logic.{_≢_}
+use Prim.Native.Nat.{ℕ, _+_, _*_, _≤_, _<_}
+use native.Mathlib.Decide.{decLt}
+use native.Mathlib.Omega.{arith}
+use mathlib.Core.List.{List}
+use lib.ListN.{length}
+use Rattle.lists.specs.Zip.{zipInto, zipAt}
+use Rattle.lists.proofs.Parts.{part-before, part-after, part-at}
+use Rattle.lists.proofs.ZipLaws.{put-all}
+use Rattle.matrix.specs.Cells.{cellFrom}
+use Rattle.matrix.proofs.CellLaws.{length-cell}
+
+-- the cell of a number, row · C + column
+abbrev pub cell : ℕ → List ℕ → List ℕ
+cell q m = cellFrom (12 * q) m
+
+module _ (f : ℕ → ℕ → ℕ) (q : ℕ) (m words : List ℕ) (len : length words ≡ 12) where
+  pub cell-changed : cell q (zipAt f (12 * q) m words) ≡ zipInto f (cell q m) words
+  unfolding cellFrom
+  cell-changed = part-at f (12 * q) 12 m words (omega arith)
+
+  pub cell-kept : (x : ℕ) → x ≢ q → cell x (zipAt f (12 * q) m words) ≡ cell x m
+  unfolding cellFrom
+  cell-kept x other =
+      elim (decLt x q) [
+        | yes lt ↦ part-before f (12 * q) (12 * x) 12 m words (omega arith)
+        | no ge ↦ part-after f (12 * q) (12 * x) 12 m words (omega arith)
+      ]
+
+-- an overwritten cell is what was written
+pub cell-put : (n q : ℕ) (m words : List ℕ) → 12 * n ≤ length m → q < n → length words ≡ 12 → cell q (zipAt (λ x y. y) (12 * q) m words) ≡ words
+cell-put n q m words fits lt len =
+    cell-changed (λ x y. y) q m words len
+    ∙ put-all (cell q m) words (len ∙ omega (arith, length-cell (12 * q) m (omega arith)))
