@@ -2,3 +2,4 @@
 pub mod Padded
 pub mod Bytes
 pub mod Cases
+pub mod Told
