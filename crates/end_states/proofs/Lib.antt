@@ -1,0 +1,4 @@
+-- What end states tell about the inputs.
+pub mod View
+pub mod CellSteps
+pub mod SetupSteps
