@@ -2,3 +2,5 @@
 pub mod View
 pub mod CellSteps
 pub mod SetupSteps
+pub mod Traces
+pub mod VisitSteps
