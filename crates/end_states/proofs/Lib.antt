@@ -4,3 +4,6 @@ pub mod CellSteps
 pub mod SetupSteps
 pub mod Traces
 pub mod VisitSteps
+pub mod RecordTold
+pub mod Walks
+pub mod EndStates

@@ -1,2 +1,3 @@
--- What a derivation leaves after its last visit, and pairs of inputs that can be told from it.
+-- What a derivation leaves after its last visit, and the pairs of calls that are compared by it.
 pub mod EndState
+pub mod Calls
