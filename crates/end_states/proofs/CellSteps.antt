@@ -8,16 +8,16 @@ use native.Mathlib.Omega.{arith}
 use mathlib.Core.List.{List}
 use lib.ListN.{length}
 use lib.Bits.{bitXor}
-use Rattle.lists.specs.Zip.{zipInto, zipAt, xorInto}
+use Rattle.lists.specs.Zip.{zipAt, xorInto}
 use Rattle.lists.proofs.Words.{AllWords}
-use Rattle.lists.proofs.ZipLaws.{length-zipAt, zip-undo, zip-words, xor-words}
-use Rattle.permutation.specs.Word.{plainSum}
+use Rattle.lists.proofs.ZipLaws.{length-zipAt, zip-undo, xor-words}
 use Rattle.permutation.specs.Inverse.{Addition}
 use Rattle.permutation.specs.Round.{rounds}
 use Rattle.permutation.proofs.State.{IsState}
 use Rattle.permutation.proofs.Undo.{rounds-state, rounds-inj}
 use Rattle.permutation.proofs.WordLaws.{xor-undo}
 use Rattle.sponge.specs.Sponge.{absorb, cellSum}
+use Rattle.sponge.proofs.Sums.{sum-words}
 use Rattle.sponge.proofs.Absorbing.{absorb-state, absorb-inj}
 use Rattle.columns.specs.Settings.{Work, work}
 use Rattle.matrix.proofs.Apart.{cell, cell-changed, cell-kept, cell-put}
@@ -34,11 +34,10 @@ module _ {P : Cells} where
   made-cell q h = record { same = λ l m e. e q h; words = λ m w. w q h }
 
   pub made-sum : {f g : List ℕ → List ℕ} → Made P f → Made P g → Made P (λ m. cellSum (f m) (g m))
-  unfolding cellSum
   made-sum {f} {g} mf mg =
       record {
-        same = λ l m e. ap₂ (zipInto plainSum) (mf .same l m e) (mg .same l m e);
-        words = λ m w. zip-words plainSum (λ a b ha hb. omega arith) (f m) (g m) (mf .words m w) (mg .words m w);
+        same = λ l m e. ap₂ cellSum (mf .same l m e) (mg .same l m e);
+        words = λ m w. sum-words (f m) (g m) (mf .words m w) (mg .words m w);
       }
 
   pub made-xor : {f : List ℕ → List ℕ} (ys : List ℕ) → AllWords ys → Made P f → Made P (λ m. xorInto (f m) ys)

@@ -11,7 +11,7 @@ use Rattle.permutation.specs.Inverse.{Addition}
 use Rattle.permutation.proofs.State.{IsState}
 use Rattle.input.specs.Input.{numbers, absorbed}
 use Rattle.input.proofs.Bytes.{absorbed-state}
-use Rattle.input.proofs.Told.{absorbed-told}
+use Rattle.input.proofs.Injective.{absorbed-inj}
 use Rattle.end_states.specs.EndState.{settings}
 use Rattle.end_states.specs.Calls.{Call, Fits, OneBlockApart, SameEnd, SameInput, inputBlocks, paddedInput, absorbedState}
 use Rattle.end_states.proofs.Walks.{walk-forth, walk-back}
@@ -35,7 +35,7 @@ module _ (A : Addition) (ρ ω T R C : ℕ) (least : 3 ≤ R) (x y : Call) (fx :
       let e : absorbedState (settings A ρ ω) T R C x ≡ absorbedState (settings A ρ ω) T R C y =
       walk-back A ρ ω T R C least _ (x .matrix) _ (y .matrix) (is-state x fx) (is-state y fy) (fx .room) (fy .room) (ends .state) (ends .matrix) (ends .visited) in
       let told =
-      absorbed-told A (x .keyLength) (y .keyLength) (x .password) (x .salt) (y .password) (y .salt) (T ∷ R ∷ C ∷ []) (T ∷ R ∷ C ∷ []) refl
+      absorbed-inj A (x .keyLength) (y .keyLength) (x .password) (x .salt) (y .password) (y .salt) (T ∷ R ∷ C ∷ []) (T ∷ R ∷ C ∷ []) refl
       (fx .password-bytes) (fx .salt-bytes) (fy .password-bytes) (fy .salt-bytes)
       (fx .key-fits) (fy .key-fits) (fx .password-fits) (fy .password-fits) (apart .as-many) b (apart .others) e in
       record { password = told .0; salt = told .1; keyLength = told .2 }

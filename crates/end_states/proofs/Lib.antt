@@ -2,8 +2,6 @@
 pub mod View
 pub mod CellSteps
 pub mod SetupSteps
-pub mod Traces
 pub mod VisitSteps
-pub mod RecordTold
 pub mod Walks
 pub mod EndStates

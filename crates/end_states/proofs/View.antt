@@ -2,10 +2,10 @@
 -- same before it exactly when they are the same after it; the steps of the walk are composed of such steps. Assumes nothing.
 use mathlib.Core.Path.{_≡_}
 use mathlib.Core.Logic.{_↔_}
-use Prim.Native.Nat.{ℕ, zero, suc, _*_, _≤_, _<_}
-use native.Mathlib.Omega.{arith}
+use Prim.Native.Nat.{ℕ, suc, _*_, _≤_, _<_}
 use lib.ListN.{length}
 use Rattle.lists.specs.Loop.{loop}
+use Rattle.lists.proofs.LoopLaws.{loop-ind}
 use Rattle.lists.proofs.Words.{AllWords}
 use Rattle.permutation.proofs.State.{IsState}
 use Rattle.columns.specs.Settings.{Work}
@@ -52,6 +52,5 @@ module _ {n : ℕ} where
   -- a loop, where step k leads from the set P k to the next
   pub keeps-loop : (P : ℕ → Cells) (f : ℕ → Work → Work) (k : ℕ) → ((i : ℕ) → i < k → Keeps n (P i) (P (suc i)) (f i))
       → Keeps n (P 0) (P k) (loop f k)
-  unfolding loop
-  keeps-loop P f zero step = keeps-same (λ q. (λ h. h, λ h. h))
-  keeps-loop P f (suc k) step = keeps-then (keeps-loop P f k (λ i h. step i (omega arith))) (step k (omega arith))
+  keeps-loop P f k step =
+      loop-ind f (λ i. Keeps n (P 0) (P i)) (keeps-same (λ q. (λ h. h, λ h. h))) k (λ i lt g kept. keeps-then kept (step i lt))

@@ -23,7 +23,7 @@ use Rattle.end_states.specs.EndState.{settings}
 use Rattle.end_states.proofs.View.{Same, Sound, Keeps, keeps-then}
 use Rattle.end_states.proofs.CellSteps.{Made, made-cell, made-sum, keeps-duplex, keeps-xor}
 use Rattle.end_states.proofs.SetupSteps.{Below}
-use Rattle.end_states.proofs.Traces.{Undone, loop-good, loop-forth, loop-back}
+use Rattle.lists.proofs.Traces.{Undone, loop-good, loop-forth, loop-back}
 
 -- rows of a matrix of R rows
 record RowsBelow (R : ℕ) (r : Rows) : Type 0 where

@@ -5,10 +5,9 @@ use Prim.Native.Nat.{ℕ, _-_, _*_, _≤_}
 use native.Mathlib.Omega.{arith}
 use mathlib.Core.List.{List}
 use lib.ListN.{length, take}
-use Rattle.lists.proofs.Parts.{same-pieces, pieces-same}
 use Rattle.permutation.specs.Inverse.{Addition}
 use Rattle.permutation.proofs.State.{IsState}
-use Rattle.matrix.specs.Cells.{cellFrom}
+use Rattle.matrix.proofs.Apart.{cells-words, words-cells}
 use Rattle.columns.specs.Settings.{Settings, Work, work}
 use Rattle.setup_order.proofs.Windows.{prev1-lt}
 use Rattle.wandering.specs.Visits.{wander}
@@ -17,17 +16,15 @@ use Rattle.end_states.specs.EndState.{settings, startWalk, endWalk, endS
 use Rattle.end_states.proofs.View.{Same, Sound}
 use Rattle.end_states.proofs.SetupSteps.{Below, setup-keeps}
 use Rattle.end_states.proofs.VisitSteps.{SoundWalk, SameDone, SameRows, wander-forth, wander-back}
-use Rattle.end_states.proofs.RecordTold.{record-told, visits-of-columns}
+use Rattle.wandering.proofs.EncodingLaws.{encode-inj, visits-of-columns}
 
--- every cell is the same exactly where the used matrix is
+-- the state and every cell are the same exactly where the state and the used matrix are
 
 used-told : (n : ℕ) (v w : Work) → Same (Below n) v w → take (12 * n) (v .matrix) ≡ take (12 * n) (w .matrix)
-unfolding cellFrom
-used-told n v w s = pieces-same 12 n (v .matrix) (w .matrix) (s .cells)
+used-told n v w s = cells-words n (v .matrix) (w .matrix) (s .cells)
 
 used-tells : (n : ℕ) (v w : Work) → v .state ≡ w .state → take (12 * n) (v .matrix) ≡ take (12 * n) (w .matrix) → Same (Below n) v w
-unfolding cellFrom
-used-tells n v w e m = record { state = e; cells = same-pieces 12 n (v .matrix) (w .matrix) m }
+used-tells n v w e m = record { state = e; cells = words-cells n (v .matrix) (w .matrix) m }
 
 module _ (A : Addition) (ρ ω T R C : ℕ) (least : 3 ≤ R) where
   abbrev S : Settings
@@ -76,7 +73,7 @@ module _ (A : Addition) (ρ ω T R C : ℕ) (least : 3 ≤ R) where
     walk-back state matrix visited =
         let v = startWalk S R C s m in
         let w = startWalk S R C t l in
-        let told = record-told C _ _ (visits-of-columns S R C (R * T) v) (visits-of-columns S R C (R * T) w) visited in
+        let told = encode-inj C _ _ (visits-of-columns S R C (R * T) v) (visits-of-columns S R C (R * T) w) visited in
         setup-back
         (wander-back A ρ ω R C (R * T) v w (start-sound s m hs fm) (start-sound t l ht fl) (start-rows s m t l) told
         (used-tells (R * C) (wander S R C (R * T) v .done) (wander S R C (R * T) w .done) state matrix))

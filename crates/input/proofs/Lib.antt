@@ -2,4 +2,4 @@
 pub mod Padded
 pub mod Bytes
 pub mod Cases
-pub mod Told
+pub mod Injective

@@ -3,3 +3,4 @@ pub mod Words
 pub mod ZipLaws
 pub mod LoopLaws
 pub mod Parts
+pub mod Traces

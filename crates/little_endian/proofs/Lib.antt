@@ -1,3 +1,3 @@
 -- The laws of numbers as bytes.
 pub mod ByteLaws
-pub mod Told
+pub mod Injective

@@ -1,13 +1,14 @@
--- Cells by their number: a change of one cell is a change of its twelve words, and of no other cell. Assumes nothing.
+-- Cells by their number: a change of one cell is a change of its twelve words and of no other cell, and the cells are the used matrix.
+-- Assumes nothing.
 use mathlib.Core.Path.{_≡_, _∙_}
 use mathlib.Core.Logic.{_≢_}
 use Prim.Native.Nat.{ℕ, _+_, _*_, _≤_, _<_}
 use native.Mathlib.Decide.{decLt}
 use native.Mathlib.Omega.{arith}
 use mathlib.Core.List.{List}
-use lib.ListN.{length}
+use lib.ListN.{length, take}
 use Rattle.lists.specs.Zip.{zipInto, zipAt}
-use Rattle.lists.proofs.Parts.{part-before, part-after, part-at}
+use Rattle.lists.proofs.Parts.{part-before, part-after, part-at, pieces-same, same-pieces}
 use Rattle.lists.proofs.ZipLaws.{put-all}
 use Rattle.matrix.specs.Cells.{cellFrom}
 use Rattle.matrix.proofs.CellLaws.{length-cell}
@@ -34,3 +35,13 @@ pub cell-put : (n q : ℕ) (m words : List ℕ) → 12 * n ≤ length m → q < 
 cell-put n q m words fits lt len =
     cell-changed (λ x y. y) q m words len
     ∙ put-all (cell q m) words (len ∙ omega (arith, length-cell (12 * q) m (omega arith)))
+
+-- the first n cells are the same exactly where their words are
+module _ (n : ℕ) (l m : List ℕ) where
+  pub cells-words : ((q : ℕ) → q < n → cell q l ≡ cell q m) → take (12 * n) l ≡ take (12 * n) m
+  unfolding cellFrom
+  cells-words = pieces-same 12 n l m
+
+  pub words-cells : take (12 * n) l ≡ take (12 * n) m → (q : ℕ) → q < n → cell q l ≡ cell q m
+  unfolding cellFrom
+  words-cells = same-pieces 12 n l m

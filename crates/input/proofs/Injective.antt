@@ -1,4 +1,4 @@
--- The input can be told from the padded input, and a padded input of which at most one block is open from the state after it.
+-- The input is known by its padded input, and a padded input of which at most one block is open by the state after it.
 -- Where one input is shorter, its padding would meet the other's mark: a byte of 128 or more against one of at most 1.
 -- Assumes nothing.
 use mathlib.Core.Path.{_≡_, refl, sym, ap, ap₂, _∙_, subst}
@@ -13,7 +13,7 @@ use Rattle.lists.proofs.Parts.{append-inj, pieces-same}
 use Rattle.lists.proofs.Words.{AllWords}
 use Rattle.little_endian.specs.Bytes.{leEach}
 use Rattle.little_endian.proofs.ByteLaws.{AllBytes, drop-bytes, words-fit, length-words}
-use Rattle.little_endian.proofs.Told.{number-told, words-told, each-told}
+use Rattle.little_endian.proofs.Injective.{bytes-inj, words-inj, each-inj}
 use Rattle.permutation.specs.Inverse.{Addition}
 use Rattle.permutation.proofs.State.{IsState}
 use Rattle.sponge.specs.Profile.{fullRounds, start}
@@ -72,29 +72,29 @@ module _ (p s ns p′ s′ ns′ : List ℕ) (count : length ns ≡ length ns′
       let b = not-shorter p′ s′ ns′ p s ns (sym e) in
       omega arith
 
-  unpadded-told : unpadded p s ns ≡ unpadded p′ s′ ns′
+  same-unpadded : unpadded p s ns ≡ unpadded p′ s′ ns′
   unfolding padded
-  unpadded-told =
+  same-unpadded =
       append-inj (unpadded p s ns) (unpadded p′ s′ ns′) (padding (missing (length (unpadded p s ns)))) (padding (missing (length (unpadded p′ s′ ns′))))
       (omega (arith, length-unpadded p s ns, length-unpadded p′ s′ ns′, same-length)) e .0
 
-  parts-told : (p ++ s ≡ p′ ++ s′) × (leEach 4 ns ≡ leEach 4 ns′)
+  same-parts : (p ++ s ≡ p′ ++ s′) × (leEach 4 ns ≡ leEach 4 ns′)
   unfolding unpadded
-  parts-told =
+  same-parts =
       append-inj (p ++ s) (p′ ++ s′) (leEach 4 ns) (leEach 4 ns′)
       (omega (arith, length-append p s, length-append p′ s′, same-length))
-      (append-assoc p s (leEach 4 ns) ∙ unpadded-told ∙ sym (append-assoc p′ s′ (leEach 4 ns′)))
+      (append-assoc p s (leEach 4 ns) ∙ same-unpadded ∙ sym (append-assoc p′ s′ (leEach 4 ns′)))
 
 -- the numbers begin with the key length, the password length and the salt length; equally many follow
 module _ (k k′ : ℕ) (p s p′ s′ rest rest′ : List ℕ) (count : length rest ≡ length rest′) where
-  pub input-told : k < 2 ^ 32 → k′ < 2 ^ 32 → length p < 2 ^ 32 → length p′ < 2 ^ 32
+  pub padded-inj : k < 2 ^ 32 → k′ < 2 ^ 32 → length p < 2 ^ 32 → length p′ < 2 ^ 32
       → padded p s (k ∷ length p ∷ length s ∷ rest) ≡ padded p′ s′ (k′ ∷ length p′ ∷ length s′ ∷ rest′)
       → (p ≡ p′) × (s ≡ s′) × (k ≡ k′)
-  input-told hk hk′ hp hp′ e =
-      let parts = parts-told p s _ p′ s′ _ (omega arith) e in
-      let number = each-told 4 _ _ (omega arith) (parts .1) in
-      let lists = append-inj p p′ s s′ (number-told 4 (length p) (length p′) hp hp′ (number 1)) (parts .0) in
-      (lists .0, lists .1, number-told 4 k k′ hk hk′ (number 0))
+  padded-inj hk hk′ hp hp′ e =
+      let parts = same-parts p s _ p′ s′ _ (omega arith) e in
+      let number = each-inj 4 _ _ (omega arith) (parts .1) in
+      let lists = append-inj p p′ s s′ (bytes-inj 4 (length p) (length p′) hp hp′ (number 1)) (parts .0) in
+      (lists .0, lists .1, bytes-inj 4 k k′ hk hk′ (number 0))
 
 -- ---- the padded input from the state
 
@@ -110,12 +110,12 @@ module _ (A : Addition) (bytes bytes′ : List ℕ) (h : AllBytes bytes) (h′ :
       ap₂ (absorb (A .sum) fullRounds) (same n (omega arith)) (absorb-same-blocks n s (λ i lt. same i (omega arith)))
 
   -- at most block b is open
-  pub blocks-told : (b n : ℕ) (s : List ℕ) → IsState s → ((i : ℕ) → i < n → i ≢ b → block bytes i ≡ block bytes′ i)
+  pub absorb-blocks-inj : (b n : ℕ) (s : List ℕ) → IsState s → ((i : ℕ) → i < n → i ≢ b → block bytes i ≡ block bytes′ i)
       → absorbBlocks (A .sum) n bytes s ≡ absorbBlocks (A .sum) n bytes′ s
       → (i : ℕ) → i < n → block bytes i ≡ block bytes′ i
   unfolding absorbBlocks
-  blocks-told b zero s hs same e i lt = absurd (omega arith)
-  blocks-told b (suc n) s hs same e i lt =
+  absorb-blocks-inj b zero s hs same e i lt = absurd (omega arith)
+  absorb-blocks-inj b (suc n) s hs same e i lt =
       elim (ℕ-discrete n b) [
         | yes last ↦
             let before : (j : ℕ) → j < n → block bytes j ≡ block bytes′ j = λ j l. same j (omega arith) (omega arith) in
@@ -132,15 +132,15 @@ module _ (A : Addition) (bytes bytes′ : List ℕ) (h : AllBytes bytes) (h′ :
             (e ∙ ap (λ (words : List ℕ). absorb (A .sum) fullRounds words (absorbBlocks (A .sum) n bytes′ s)) (sym one)) in
             elim (ℕ-discrete i n) [
               | yes here ↦ subst (λ (j : ℕ). block bytes j ≡ block bytes′ j) (sym here) one
-              | no elsewhere ↦ blocks-told b n s hs (λ j l. same j (omega arith)) states i (omega arith)
+              | no elsewhere ↦ absorb-blocks-inj b n s hs (λ j l. same j (omega arith)) states i (omega arith)
             ]
       ]
 
-  pub bytes-told : (n : ℕ) → length bytes ≡ 64 * n → length bytes′ ≡ 64 * n → ((i : ℕ) → i < n → block bytes i ≡ block bytes′ i) → bytes ≡ bytes′
-  bytes-told n l l′ same =
+  pub same-blocks-bytes : (n : ℕ) → length bytes ≡ 64 * n → length bytes′ ≡ 64 * n → ((i : ℕ) → i < n → block bytes i ≡ block bytes′ i) → bytes ≡ bytes′
+  same-blocks-bytes n l l′ same =
       sym (take-all (64 * n) bytes (omega arith))
       ∙ pieces-same 64 n bytes bytes′
-      (λ i lt. words-told 8 (drop (64 * i) bytes) (drop (64 * i) bytes′) (drop-bytes (64 * i) bytes h) (drop-bytes (64 * i) bytes′ h′)
+      (λ i lt. words-inj 8 (drop (64 * i) bytes) (drop (64 * i) bytes′) (drop-bytes (64 * i) bytes h) (drop-bytes (64 * i) bytes′ h′)
       (simp length-drop (omega arith)) (simp length-drop (omega arith)) (same i lt))
       ∙ take-all (64 * n) bytes′ (omega arith)
 
@@ -153,18 +153,18 @@ module _ (A : Addition) (k k′ : ℕ) (p s p′ s′ rest rest′ : List ℕ) (
   abbrev ns′ : List ℕ
   ns′ = k′ ∷ length p′ ∷ length s′ ∷ rest′
 
-  pub absorbed-told : k < 2 ^ 32 → k′ < 2 ^ 32 → length p < 2 ^ 32 → length p′ < 2 ^ 32
+  pub absorbed-inj : k < 2 ^ 32 → k′ < 2 ^ 32 → length p < 2 ^ 32 → length p′ < 2 ^ 32
       → blocks (length p) (length s) (length ns) ≡ blocks (length p′) (length s′) (length ns′)
       → (b : ℕ) → ((i : ℕ) → i < blocks (length p) (length s) (length ns) → i ≢ b → block (padded p s ns) i ≡ block (padded p′ s′ ns′) i)
       → absorbed (A .sum) p s ns ≡ absorbed (A .sum) p′ s′ ns′
       → (p ≡ p′) × (s ≡ s′) × (k ≡ k′)
   unfolding absorbed absorbInput
-  absorbed-told hk hk′ lp lp′ many b same e =
+  absorbed-inj hk hk′ lp lp′ many b same e =
       let n = blocks (length p) (length s) (length ns) in
       let x = padded-bytes p s ns hp hs in
       let y = padded-bytes p′ s′ ns′ hp′ hs′ in
       let e′ : absorbBlocks (A .sum) n (padded p s ns) start ≡ absorbBlocks (A .sum) n (padded p′ s′ ns′) start =
       e ∙ ap (λ (m : ℕ). absorbBlocks (A .sum) m (padded p′ s′ ns′) start) (sym many) in
-      input-told k k′ p s p′ s′ rest rest′ count hk hk′ lp lp′
-      (bytes-told A (padded p s ns) (padded p′ s′ ns′) x y n (length-padded p s ns) (length-padded p′ s′ ns′ ∙ ap (λ (m : ℕ). 64 * m) (sym many))
-      (blocks-told A (padded p s ns) (padded p′ s′ ns′) x y b n start start-state same e′))
+      padded-inj k k′ p s p′ s′ rest rest′ count hk hk′ lp lp′
+      (same-blocks-bytes A (padded p s ns) (padded p′ s′ ns′) x y n (length-padded p s ns) (length-padded p′ s′ ns′ ∙ ap (λ (m : ℕ). 64 * m) (sym many))
+      (absorb-blocks-inj A (padded p s ns) (padded p′ s′ ns′) x y b n start start-state same e′))

@@ -1,4 +1,4 @@
--- The visits can be told from the used record, since every visit has as many words. Assumes nothing.
+-- The visits are known by the used record, since every visit has as many words. Assumes nothing.
 use mathlib.Core.Path.{_≡_, refl, sym, ap, _∙_}
 use Prim.Native.Nat.{ℕ, zero, suc, _+_, _*_}
 use native.Mathlib.Nat.{suc-inj}
@@ -10,33 +10,33 @@ use Rattle.columns.specs.Settings.{Settings, Work}
 use Rattle.columns.specs.Columns.{picks}
 use Rattle.columns.specs.declared.Rows.{Rows}
 use Rattle.columns.specs.declared.Picks.{Picks}
 use Rattle.wandering.specs.Visits.{Walk, Visit, wander, columnPicks, visitColumns, visitData, visits}
 use Rattle.wandering.specs.Encoding.{encodePicks, encodeVisit, encode}
 
 length-picks : (ps : List Picks) → length (encodePicks ps) ≡ 2 * length ps
 unfolding encodePicks
 length-picks [] = refl
 length-picks (p ∷ ps) = omega (arith, length-picks ps)
 
-picks-told : (ps qs : List Picks) → length ps ≡ length qs → encodePicks ps ≡ encodePicks qs → ps ≡ qs
+picks-inj : (ps qs : List Picks) → length ps ≡ length qs → encodePicks ps ≡ encodePicks qs → ps ≡ qs
 unfolding encodePicks
-picks-told [] [] l e = refl
-picks-told [] (q ∷ qs) l e = absurd (omega arith)
-picks-told (p ∷ ps) [] l e = absurd (omega arith)
-picks-told (p ∷ ps) (q ∷ qs) l e =
+picks-inj [] [] l e = refl
+picks-inj [] (q ∷ qs) l e = absurd (omega arith)
+picks-inj (p ∷ ps) [] l e = absurd (omega arith)
+picks-inj (p ∷ ps) (q ∷ qs) l e =
     let a : p .col0 .0 ≡ q .col0 .0 = cc in
     let b : p .col1 .0 ≡ q .col1 .0 = cc in
     let rest : encodePicks ps ≡ encodePicks qs = cc in
-    let all = picks-told ps qs (suc-inj l) rest in
+    let all = picks-inj ps qs (suc-inj l) rest in
     λ i. record { col0 = record { 0 = a i }; col1 = record { 0 = b i } } ∷ all i
 
-visit-told : (v w : Visit) → length (v .columns) ≡ length (w .columns) → encodeVisit v ≡ encodeVisit w → v ≡ w
+visit-inj : (v w : Visit) → length (v .columns) ≡ length (w .columns) → encodeVisit v ≡ encodeVisit w → v ≡ w
 unfolding encodeVisit
-visit-told v w l e =
+visit-inj v w l e =
     let a : v .row0 ≡ w .row0 = cc in
     let b : v .row1 ≡ w .row1 = cc in
     let rest : encodePicks (v .columns) ≡ encodePicks (w .columns) = cc in
-    let c = picks-told (v .columns) (w .columns) l rest in
+    let c = picks-inj (v .columns) (w .columns) l rest in
     λ i. record { row0 = a i; row1 = b i; columns = c i }
 
 length-visit : (v : Visit) → length (encodeVisit v) ≡ 2 + 2 * length (v .columns)
@@ -48,19 +48,19 @@ abbrev pub OfColumns : ℕ → List Visit → Type 0
 OfColumns C [] = Unit {0}
 OfColumns C (v ∷ vs) = (length (v .columns) ≡ C) × OfColumns C vs
 
-pub record-told : (C : ℕ) (vs ws : List Visit) → OfColumns C vs → OfColumns C ws → encode vs ≡ encode ws → vs ≡ ws
+pub encode-inj : (C : ℕ) (vs ws : List Visit) → OfColumns C vs → OfColumns C ws → encode vs ≡ encode ws → vs ≡ ws
 unfolding encode
-record-told C [] [] hv hw e = refl
-record-told C [] (w ∷ ws) hv hw e =
+encode-inj C [] [] hv hw e = refl
+encode-inj C [] (w ∷ ws) hv hw e =
     absurd (omega (arith, ap length e, length-append (encodeVisit w) (encode ws), length-visit w))
-record-told C (v ∷ vs) [] hv hw e =
+encode-inj C (v ∷ vs) [] hv hw e =
     absurd (omega (arith, ap length e, length-append (encodeVisit v) (encode vs), length-visit v))
-record-told C (v ∷ vs) (w ∷ ws) hv hw e =
+encode-inj C (v ∷ vs) (w ∷ ws) hv hw e =
     let l : length (v .columns) ≡ length (w .columns) = hv .0 ∙ sym (hw .0) in
     let parts =
     append-inj (encodeVisit v) (encodeVisit w) (encode vs) (encode ws) (omega (arith, length-visit v, length-visit w)) e in
-    let first = visit-told v w l (parts .0) in
-    let rest = record-told C vs ws (hv .1) (hw .1) (parts .1) in
+    let first = visit-inj v w l (parts .0) in
+    let rest = encode-inj C vs ws (hv .1) (hw .1) (parts .1) in
     λ i. first i ∷ rest i
 
 -- ---- the visits of a walk are such

@@ -1,4 +1,4 @@
--- Numbers can be told from their bytes, and bytes from the words that they make. Assumes nothing.
+-- Numbers are known by their bytes, and bytes by the words that they make. Assumes nothing.
 use mathlib.Core.Path.{_≡_, refl, sym, ap, ap₂, _∙_}
 use Prim.Native.Nat.{ℕ, zero, suc, _+_, _*_, _/_, _^_, _≤_, _<_}
 use native.Mathlib.Nat.{suc-inj}
@@ -19,35 +19,35 @@ value-bytes (suc n) x h =
     let rest : leValue (leBytes n (x / 256)) ≡ x / 256 = value-bytes n (x / 256) (omega arith) in
     omega arith
 
-pub number-told : (n x y : ℕ) → x < 2 ^ (8 * n) → y < 2 ^ (8 * n) → leBytes n x ≡ leBytes n y → x ≡ y
-number-told n x y hx hy e = sym (value-bytes n x hx) ∙ ap leValue e ∙ value-bytes n y hy
+pub bytes-inj : (n x y : ℕ) → x < 2 ^ (8 * n) → y < 2 ^ (8 * n) → leBytes n x ≡ leBytes n y → x ≡ y
+bytes-inj n x y hx hy e = sym (value-bytes n x hx) ∙ ap leValue e ∙ value-bytes n y hy
 
-pub bytes-told : (l m : List ℕ) → AllBytes l → AllBytes m → length l ≡ length m → leValue l ≡ leValue m → l ≡ m
-bytes-told l m hl hm len e = sym (bytes-value l hl) ∙ ap₂ leBytes len e ∙ bytes-value m hm
+pub value-inj : (l m : List ℕ) → AllBytes l → AllBytes m → length l ≡ length m → leValue l ≡ leValue m → l ≡ m
+value-inj l m hl hm len e = sym (bytes-value l hl) ∙ ap₂ leBytes len e ∙ bytes-value m hm
 
 -- the bytes of n words
-pub words-told : (n : ℕ) (l m : List ℕ) → AllBytes l → AllBytes m → 8 * n ≤ length l → 8 * n ≤ length m
+pub words-inj : (n : ℕ) (l m : List ℕ) → AllBytes l → AllBytes m → 8 * n ≤ length l → 8 * n ≤ length m
     → leWords n l ≡ leWords n m → take (8 * n) l ≡ take (8 * n) m
 unfolding leWords
-words-told zero l m hl hm fl fm e = refl
-words-told (suc n) l m hl hm fl fm e =
+words-inj zero l m hl hm fl fm e = refl
+words-inj (suc n) l m hl hm fl fm e =
     let more : 8 * suc n ≡ 8 + 8 * n = omega arith in
     let here : leValue (take 8 l) ≡ leValue (take 8 m) = cc in
     let there : leWords n (drop 8 l) ≡ leWords n (drop 8 m) = cc in
     let eight : length (take 8 l) ≡ length (take 8 m) = simp length-take (omega arith) in
     rw (more, take-add 8 (8 * n) l, take-add 8 (8 * n) m)
     (ap₂ (λ (a b : List ℕ). a ++ b)
-    (bytes-told (take 8 l) (take 8 m) (take-bytes 8 l hl) (take-bytes 8 m hm) eight here)
-    (words-told n (drop 8 l) (drop 8 m) (drop-bytes 8 l hl) (drop-bytes 8 m hm) (simp length-drop (omega arith))
+    (value-inj (take 8 l) (take 8 m) (take-bytes 8 l hl) (take-bytes 8 m hm) eight here)
+    (words-inj n (drop 8 l) (drop 8 m) (drop-bytes 8 l hl) (drop-bytes 8 m hm) (simp length-drop (omega arith))
     (simp length-drop (omega arith)) there))
 
 -- the bytes of each number of a list
-pub each-told : (n : ℕ) (xs ys : List ℕ) → length xs ≡ length ys → leEach n xs ≡ leEach n ys
+pub each-inj : (n : ℕ) (xs ys : List ℕ) → length xs ≡ length ys → leEach n xs ≡ leEach n ys
     → (i : ℕ) → leBytes n (getD xs i 0) ≡ leBytes n (getD ys i 0)
 unfolding leEach
-each-told n [] [] len e i = refl
-each-told n [] (y ∷ ys) len e i = absurd (omega arith)
-each-told n (x ∷ xs) [] len e i = absurd (omega arith)
-each-told n (x ∷ xs) (y ∷ ys) len e i =
+each-inj n [] [] len e i = refl
+each-inj n [] (y ∷ ys) len e i = absurd (omega arith)
+each-inj n (x ∷ xs) [] len e i = absurd (omega arith)
+each-inj n (x ∷ xs) (y ∷ ys) len e i =
     let parts = append-inj (leBytes n x) (leBytes n y) (leEach n xs) (leEach n ys) (length-bytes n x ∙ sym (length-bytes n y)) e in
-    elim i [ zero ↦ parts .0 | suc j ↦ each-told n xs ys (suc-inj len) (parts .1) j ]
+    elim i [ zero ↦ parts .0 | suc j ↦ each-inj n xs ys (suc-inj len) (parts .1) j ]

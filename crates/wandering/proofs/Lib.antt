@@ -1,0 +1,2 @@
+-- The laws of the visits.
+pub mod EncodingLaws
