@@ -16,10 +16,13 @@ use Rattle.permutation.specs.Round.{rounds}
 use Rattle.permutation.proofs.State.{IsState}
 use Rattle.permutation.proofs.Undo.{rounds-state, rounds-inj}
 use Rattle.permutation.proofs.WordLaws.{xor-undo}
-use Rattle.sponge.specs.Sponge.{absorb, cellSum}
+use Rattle.sponge.specs.Sponge.{absorb, rand, cellSum}
 use Rattle.sponge.proofs.Sums.{sum-words}
 use Rattle.sponge.proofs.Absorbing.{absorb-state, absorb-inj}
 use Rattle.columns.specs.Settings.{Work, work}
+use Rattle.sponge.proofs.Output.{length-rand, rand-words}
+use Rattle.matrix.specs.Cells.{rotated}
+use Rattle.matrix.proofs.CellLaws.{length-rotated, rotated-words}
 use Rattle.matrix.proofs.Apart.{cell, cell-changed, cell-kept, cell-put}
 use Rattle.end_states.proofs.View.{Cells, Same, Sound, Keeps}
 
@@ -184,5 +187,14 @@ module _ (n q : ℕ) (g : List ℕ → List ℕ) (len : (s : List ℕ) → lengt
         ];
       }
 
-  pub keeps-xor : {P : Cells} → Keeps n P P (xored q g)
+  keeps-xor : {P : Cells} → Keeps n P P (xored q g)
   keeps-xor = record { sound = xored-sound; forth = λ v w hv hw. xored-forth v w; back = λ v w hv hw. xored-back v w }
+
+-- ---- the two XORs of the walk
+
+pub keeps-xor-output : (n q : ℕ) {P : Cells} → Keeps n P P (xored q rand)
+keeps-xor-output n q = keeps-xor n q rand length-rand rand-words
+
+pub keeps-xor-rotated : (n q ω : ℕ) {P : Cells} → Keeps n P P (xored q (λ s. rotated ω (rand s)))
+keeps-xor-rotated n q ω =
+    keeps-xor n q (λ s. rotated ω (rand s)) (λ s. length-rotated ω (rand s)) (λ s h. rotated-words ω (rand s) (rand-words s h))

@@ -8,7 +8,9 @@ use Prim.Native.Nat.{ℕ, _≤_}
 use mathlib.Core.List.{[], _∷_}
 use lib.ListN.{length}
 use Rattle.permutation.specs.Inverse.{Addition}
+use Rattle.permutation.proofs.WordLaws.{plain}
 use Rattle.permutation.proofs.State.{IsState}
+use Rattle.columns.specs.Settings.{profile}
 use Rattle.input.specs.Input.{numbers, absorbed}
 use Rattle.input.proofs.Bytes.{absorbed-state}
 use Rattle.input.proofs.Injective.{absorbed-inj}
@@ -27,13 +29,13 @@ module _ (A : Addition) (ρ ω T R C : ℕ) (least : 3 ≤ R) (x y : Call) (fx :
       let e : absorbedState (settings A ρ ω) T R C x ≡ absorbedState (settings A ρ ω) T R C y =
       λ j. absorbed (A .sum) (i .password j) (i .salt j) (numbers (i .keyLength j) (i .password j) (i .salt j) T R C) in
       let ends = walk-forth A ρ ω T R C least _ (x .matrix) _ (y .matrix) (is-state x fx) (is-state y fy) (fx .room) (fy .room) e in
-      record { state = ends .0; matrix = ends .1; visited = ends .2 }
+      record { state = ends .0; usedMatrix = ends .1; usedRecord = ends .2 }
 
   pub same-end-same-input : (b : ℕ) → OneBlockApart T R C b x y → SameEnd (settings A ρ ω) T R C x y → SameInput x y
   unfolding absorbedState paddedInput inputBlocks
   same-end-same-input b apart ends =
       let e : absorbedState (settings A ρ ω) T R C x ≡ absorbedState (settings A ρ ω) T R C y =
-      walk-back A ρ ω T R C least _ (x .matrix) _ (y .matrix) (is-state x fx) (is-state y fy) (fx .room) (fy .room) (ends .state) (ends .matrix) (ends .visited) in
+      walk-back A ρ ω T R C least _ (x .matrix) _ (y .matrix) (is-state x fx) (is-state y fy) (fx .room) (fy .room) (ends .state) (ends .usedMatrix) (ends .usedRecord) in
       let told =
       absorbed-inj A (x .keyLength) (y .keyLength) (x .password) (x .salt) (y .password) (y .salt) (T ∷ R ∷ C ∷ []) (T ∷ R ∷ C ∷ []) refl
       (fx .password-bytes) (fx .salt-bytes) (fy .password-bytes) (fy .salt-bytes)
@@ -45,3 +47,9 @@ pub end-states-tell-inputs : (A : Addition) (ρ ω T R C b : ℕ) → 3 ≤ R �
     → OneBlockApart T R C b x y → SameEnd (settings A ρ ω) T R C x y ↔ SameInput x y
 end-states-tell-inputs A ρ ω T R C b least x y fx fy apart =
     (same-end-same-input A ρ ω T R C least x y fx fy b apart, same-input-same-end A ρ ω T R C least x y fx fy)
+
+-- document 01's own addition, rounds and rotation
+pub profile-end-states-tell-inputs : (T R C b : ℕ) → 3 ≤ R → (x y : Call) → Fits R C x → Fits R C y
+    → OneBlockApart T R C b x y → SameEnd profile T R C x y ↔ SameInput x y
+unfolding plain
+profile-end-states-tell-inputs = end-states-tell-inputs plain 1 2

@@ -9,9 +9,6 @@ use lib.ListN.{getD}
 use Rattle.lists.specs.Loop.{loop}
 use Rattle.permutation.specs.Inverse.{Addition}
 use Rattle.sponge.specs.Sponge.{rand}
-use Rattle.sponge.proofs.Output.{length-rand, rand-words}
-use Rattle.matrix.specs.Cells.{rotated}
-use Rattle.matrix.proofs.CellLaws.{length-rotated, rotated-words}
 use Rattle.matrix.proofs.Apart.{cell}
 use Rattle.columns.specs.Settings.{Settings, Work}
 use Rattle.columns.specs.Columns.{picks, visitCells, visitWritten, visitColumn}
@@ -21,7 +18,7 @@ use Rattle.setup.proofs.RowBounds.{row-before}
 use Rattle.wandering.specs.Visits.{Walk, pickedRows, visitStep, visitColumns, visit, wander, columnPicks, visitData, visits}
 use Rattle.end_states.specs.EndState.{settings}
 use Rattle.end_states.proofs.View.{Same, Sound, Keeps, keeps-then}
-use Rattle.end_states.proofs.CellSteps.{Made, made-cell, made-sum, keeps-duplex, keeps-xor}
+use Rattle.end_states.proofs.CellSteps.{Made, made-cell, made-sum, keeps-duplex, keeps-xor-output, keeps-xor-rotated}
 use Rattle.end_states.proofs.SetupSteps.{Below}
 use Rattle.lists.proofs.Traces.{Undone, loop-good, loop-forth, loop-back}
 
@@ -60,8 +57,7 @@ module _ (A : Addition) (ρ ω R C : ℕ) where
       (keeps-duplex (R * C) A ρ
       (made-sum (made-sum (made-sum (of (r .row0 .0) (below .row0) col lt) (of (r .row1 .0) (below .row1) col lt)) (of (r .prev0 .0) (below .prev0) (p .col0 .0) lt0))
       (of (r .prev1 .0) (below .prev1) (p .col1 .0) lt1)))
-      (keeps-then (keeps-xor (R * C) (r .row0 .0 * C + col) (λ s. rand s) length-rand rand-words)
-      (keeps-xor (R * C) (r .row1 .0 * C + col) (λ s. rotated ω (rand s)) (λ s. length-rotated ω (rand s)) (λ s h. rotated-words ω (rand s) (rand-words s h))))
+      (keeps-then (keeps-xor-output (R * C) (r .row0 .0 * C + col)) (keeps-xor-rotated (R * C) (r .row1 .0 * C + col) ω))
 
   picked-column : (r : Rows) → RowsBelow R r → (col : ℕ) → col < C → (s : List ℕ)
       → Keeps (R * C) (Below (R * C)) (Below (R * C)) (visitColumn S C r col (picks S C s))

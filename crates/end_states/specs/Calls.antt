@@ -42,8 +42,8 @@ absorbedState S T R C x = absorbed (S .sum) (x .password) (x .salt) (numbers (x 
 
 pub record SameEnd (S : Settings) (T R C : ℕ) (x y : Call) : Type 0 where
   pub state : endState S T R C (absorbedState S T R C x) (x .matrix) ≡ endState S T R C (absorbedState S T R C y) (y .matrix)
-  pub matrix : endMatrix S T R C (absorbedState S T R C x) (x .matrix) ≡ endMatrix S T R C (absorbedState S T R C y) (y .matrix)
-  pub visited : endRecord S T R C (absorbedState S T R C x) (x .matrix) ≡ endRecord S T R C (absorbedState S T R C y) (y .matrix)
+  pub usedMatrix : endMatrix S T R C (absorbedState S T R C x) (x .matrix) ≡ endMatrix S T R C (absorbedState S T R C y) (y .matrix)
+  pub usedRecord : endRecord S T R C (absorbedState S T R C x) (x .matrix) ≡ endRecord S T R C (absorbedState S T R C y) (y .matrix)
 
 pub record SameInput (x y : Call) : Type 0 where
   pub password : x .password ≡ y .password

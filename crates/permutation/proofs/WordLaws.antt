@@ -1,12 +1,12 @@
 -- Laws of words: an XOR is undone by the same XOR, a turn by the turn that completes it to 64 bits, a plain sum by a difference.
 -- Assumes nothing.
 use mathlib.Core.Path.{_≡_, refl, sym, ap, ap₂, _∙_, subst}
-use Prim.Native.Nat.{ℕ, zero, suc, _+_, _-_, _*_, _/_, _%_, _^_, _<_}
+use Prim.Native.Nat.{ℕ, zero, suc, _+_, _-_, _*_, _/_, _%_, _^_, _≤_, _<_}
 use native.Mathlib.Nat.{mod-lt, mul-mod-left, add-zero, add-comm}
 use native.Mathlib.Omega.{arith}
 use lib.Arith.{bin-ind, digits-lt, digits-div, digits-mod}
 use lib.Pow.{pow-pos, pow-add, mod-pow-add, shl-shr, shr-lt, high, low, split}
-use lib.Bits.{bitXor, bitOr, differ, xor-step, xor-zero-r, xor-self, or-shifted-r}
+use lib.Bits.{bitXor, bitOr, differ, xor-step, xor-zero-r, xor-self, xor-lt, or-shifted-r}
 use Rattle.permutation.specs.Word.{turnRight, plainSum}
 use Rattle.permutation.specs.Inverse.{Addition, plainBack}
 
