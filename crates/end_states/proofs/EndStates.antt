@@ -10,11 +10,10 @@ use lib.ListN.{length}
 use Rattle.permutation.specs.Inverse.{Addition}
 use Rattle.permutation.proofs.WordLaws.{plain}
 use Rattle.permutation.proofs.State.{IsState}
-use Rattle.columns.specs.Settings.{profile}
+use Rattle.columns.specs.Settings.{settings, profile}
 use Rattle.input.specs.Input.{numbers, absorbed}
 use Rattle.input.proofs.Bytes.{absorbed-state}
 use Rattle.input.proofs.Injective.{absorbed-inj}
-use Rattle.end_states.specs.EndState.{settings}
 use Rattle.end_states.specs.Calls.{Call, Fits, OneBlockApart, SameEnd, SameInput, inputBlocks, paddedInput, absorbedState}
 use Rattle.end_states.proofs.Walks.{walk-forth, walk-back}
 

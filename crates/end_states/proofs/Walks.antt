@@ -8,14 +8,14 @@ use lib.ListN.{length, take}
 use Rattle.permutation.specs.Inverse.{Addition}
 use Rattle.permutation.proofs.State.{IsState}
 use Rattle.matrix.proofs.Apart.{cells-words, words-cells}
-use Rattle.columns.specs.Settings.{Settings, Work, work}
+use Rattle.columns.specs.Settings.{Settings, Work, settings, work}
 use Rattle.setup_order.proofs.Windows.{prev1-lt}
 use Rattle.wandering.specs.Visits.{wander}
 use Rattle.wandering.specs.Encoding.{encode}
-use Rattle.end_states.specs.EndState.{settings, startWalk, endWalk, endState, endMatrix, endRecord}
-use Rattle.end_states.proofs.View.{Same, Sound}
-use Rattle.end_states.proofs.SetupSteps.{Below, setup-keeps}
-use Rattle.end_states.proofs.VisitSteps.{SoundWalk, SameDone, SameRows, wander-forth, wander-back}
+use Rattle.end_states.specs.EndState.{startWalk, endWalk, endState, endMatrix, endRecord}
+use Rattle.columns.proofs.View.{Same, Sound, Below}
+use Rattle.setup.proofs.SetupKeeps.{setup-keeps}
+use Rattle.wandering.proofs.VisitsUndone.{SoundWalk, SameDone, SameRows, wander-forth, wander-back}
 use Rattle.wandering.proofs.EncodingLaws.{encode-inj, visits-of-columns}
 
 -- the state and every cell are the same exactly where the state and the used matrix are

@@ -2,16 +2,11 @@
 use Prim.Native.Nat.{ℕ, _-_, _*_}
 use mathlib.Core.List.{List}
 use lib.ListN.{take}
-use Rattle.permutation.specs.Inverse.{Addition}
 use Rattle.columns.specs.Settings.{Settings, work}
 use Rattle.setup_order.specs.SetupOrder.{order}
 use Rattle.setup.specs.Setup.{setup}
 use Rattle.wandering.specs.Visits.{Walk, wander, visits}
 use Rattle.wandering.specs.Encoding.{encode}
-
--- any addition of G that can be undone, any number of rounds of a reduced call, any rotation
-abbrev pub settings : Addition → ℕ → ℕ → Settings
-settings A ρ ω = record { sum = A .sum; rounds = ρ; rotation = ω }
 
 -- ---- from a state and a matrix: the state once the input is absorbed, and the matrix as it is lent
 

@@ -8,6 +8,7 @@ use mathlib.Core.List.{List, [], _∷_, _++_}
 use lib.ListN.{length, take, drop, length-append}
 use lib.Seq.{take-at, drop-at, take-nil, take-take, take-add, drop-drop}
 use Rattle.lists.specs.Zip.{zipInto, zipAt}
+use Rattle.lists.proofs.ZipLaws.{zip-undo}
 
 module _ {A : Type 0} where
   pub append-inj : (a b c d : List A) → length a ≡ length b → a ++ c ≡ b ++ d → (a ≡ b) × (c ≡ d)
@@ -73,6 +74,13 @@ module _ (f : ℕ → ℕ → ℕ) where
   drop-zipAt zero xs ys = refl
   drop-zipAt (suc a) [] ys = refl
   drop-zipAt (suc a) (x ∷ xs) ys = drop-zipAt a xs ys
+
+  -- what g undoes place by place, it undoes from a place on
+  pub zipAt-undo : (g : ℕ → ℕ → ℕ) → ((x y : ℕ) → g (f x y) y ≡ x) → (a : ℕ) (xs ys : List ℕ) → zipAt g a (zipAt f a xs ys) ys ≡ xs
+  unfolding zipAt zipInto
+  zipAt-undo g e zero xs ys = zip-undo f g e xs ys
+  zipAt-undo g e (suc a) [] ys = refl
+  zipAt-undo g e (suc a) (x ∷ xs) ys = ap (λ (l : List ℕ). x ∷ l) (zipAt-undo g e a xs ys)
 
   -- the part of n elements from place b on: before the changed places, after them, and at them
 

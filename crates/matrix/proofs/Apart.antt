@@ -1,8 +1,9 @@
 -- Cells by their number: a change of one cell is a change of its twelve words and of no other cell, and the cells are the used matrix.
 -- Assumes nothing.
-use mathlib.Core.Path.{_≡_, _∙_}
+use mathlib.Core.Path.{_≡_, _∙_, subst}
 use mathlib.Core.Logic.{_≢_}
 use Prim.Native.Nat.{ℕ, _+_, _*_, _≤_, _<_}
+use native.Mathlib.Nat.{suc-mul, mul-le-mul-right}
 use native.Mathlib.Decide.{decLt}
 use native.Mathlib.Omega.{arith}
 use mathlib.Core.List.{List}
@@ -16,6 +17,10 @@ use Rattle.matrix.proofs.CellLaws.{length-cell}
 -- the cell of a number, row · C + column
 abbrev pub cell : ℕ → List ℕ → List ℕ
 cell q m = cellFrom (12 * q) m
+
+-- a row ends where a later one begins or before
+pub row-before : (a b C : ℕ) → a < b → a * C + C ≤ b * C
+row-before a b C h = subst (λ (n : ℕ). n ≤ b * C) (suc-mul a C) (mul-le-mul-right C h)
 
 module _ (f : ℕ → ℕ → ℕ) (q : ℕ) (m words : List ℕ) (len : length words ≡ 12) where
   pub cell-changed : cell q (zipAt f (12 * q) m words) ≡ zipInto f (cell q m) words

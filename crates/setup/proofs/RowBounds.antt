@@ -1,9 +1,10 @@
 -- Where Setup's rows lie, in a form that is linear in row · C. Assumes nothing.
 use mathlib.Core.Path.{_≡_, sym, ap, subst, _∙_}
-use Prim.Native.Nat.{ℕ, suc, _+_, _*_, _-_, _≤_, _<_}
+use Prim.Native.Nat.{ℕ, _+_, _*_, _-_, _≤_}
 use native.Mathlib.Omega.{arith}
-use native.Mathlib.Nat.{suc-mul, add-mul, mul-le-mul-right}
+use native.Mathlib.Nat.{suc-mul, add-mul}
 use native.Mathlib.Numerals.{add-one}
+pub use Rattle.matrix.proofs.Apart.{row-before}
 use Rattle.columns.specs.Bounds.{Earlier}
 use Rattle.setup_order.proofs.Windows.{row1-lt, prev1-lt}
 use Rattle.setup_order.specs.SetupOrder.{order}
@@ -13,10 +14,6 @@ use Rattle.setup.specs.Setup.{rowsWith}
 -- a whole row more
 pub row-more : (k C : ℕ) → (k + 1) * C ≡ k * C + C
 row-more k C = rw add-one (suc-mul k C)
-
--- a row ends where a later one begins or before
-pub row-before : (a b C : ℕ) → a < b → a * C + C ≤ b * C
-row-before a b C h = subst (λ (n : ℕ). n ≤ b * C) (suc-mul a C) (mul-le-mul-right C h)
 
 -- the first three rows and the others
 pub rows-split : (R C : ℕ) → 3 ≤ R → (R * C ≡ 3 * C + (R - 3) * C) × ((3 + (R - 3)) * C ≡ R * C)

@@ -1,2 +1,3 @@
--- The laws of the visits.
+-- The laws of the visits and of their encoding.
 pub mod EncodingLaws
+pub mod VisitsUndone

@@ -1,6 +1,6 @@
 -- The small steps of the walk: a duplex, a call, a cell written and a cell XORed. Each is undone where the state after it and the
 -- compared cells are known. Assumes nothing.
-use mathlib.Core.Path.{_≡_, refl, sym, ap, ap₂, _∙_, subst}
+use mathlib.Core.Path.{_≡_, refl, sym, ap, ap₂, _∙_, subst, subst₂}
 use mathlib.Core.Logic.{_≢_}
 use Prim.Native.Nat.{ℕ, _*_, _≤_, _<_}
 use native.Mathlib.Decide.{ℕ-discrete}
@@ -10,7 +10,8 @@ use lib.ListN.{length}
 use lib.Bits.{bitXor}
 use Rattle.lists.specs.Zip.{zipAt, xorInto}
 use Rattle.lists.proofs.Words.{AllWords}
-use Rattle.lists.proofs.ZipLaws.{length-zipAt, zip-undo, xor-words}
+use Rattle.lists.proofs.ZipLaws.{length-zipAt, xor-words}
+use Rattle.lists.proofs.Parts.{zipAt-undo}
 use Rattle.permutation.specs.Inverse.{Addition}
 use Rattle.permutation.specs.Round.{rounds}
 use Rattle.permutation.proofs.State.{IsState}
@@ -19,12 +20,12 @@ use Rattle.permutation.proofs.WordLaws.{xor-undo}
 use Rattle.sponge.specs.Sponge.{absorb, rand, cellSum}
 use Rattle.sponge.proofs.Sums.{sum-words}
 use Rattle.sponge.proofs.Absorbing.{absorb-state, absorb-inj}
 use Rattle.columns.specs.Settings.{Work, work}
 use Rattle.sponge.proofs.Output.{length-rand, rand-words}
 use Rattle.matrix.specs.Cells.{rotated}
 use Rattle.matrix.proofs.CellLaws.{length-rotated, rotated-words}
 use Rattle.matrix.proofs.Apart.{cell, cell-changed, cell-kept, cell-put}
-use Rattle.end_states.proofs.View.{Cells, Same, Sound, Keeps}
+use Rattle.columns.proofs.View.{Cells, Same, Sound, Keeps}
 
 -- ---- words made of the compared cells alone
 
@@ -171,21 +172,12 @@ module _ (n q : ℕ) (g : List ℕ → List ℕ) (len : (s : List ℕ) → lengt
         ];
       }
 
-  -- the same words XORed again give the cell before
-  xored-undo : (w : Work) → xorInto (cell q (xored q g w .matrix)) (g (w .state)) ≡ cell q (w .matrix)
-  xored-undo w = ap (λ (xs : List ℕ). xorInto xs (g (w .state))) (xored-is w) ∙ zip-undo bitXor bitXor xor-undo (cell q (w .matrix)) (g (w .state))
+  -- the same words XORed again give the work before, so the way back is the way forth
+  xored-twice : (w : Work) → xored q g (xored q g w) ≡ w
+  xored-twice w = λ i. work (w .state) (zipAt-undo bitXor bitXor xor-undo (12 * q) (w .matrix) (g (w .state)) i)
 
   xored-back : {P : Cells} (v w : Work) → Same P (xored q g v) (xored q g w) → Same P v w
-  xored-back {P} v w s =
-      record {
-        state = s .state;
-        cells = λ x hx. elim (ℕ-discrete x q) [
-          | yes here ↦
-              subst (λ (y : ℕ). cell y (v .matrix) ≡ cell y (w .matrix)) (sym here)
-              (sym (xored-undo v) ∙ ap₂ xorInto (s .cells q (subst P here hx)) (ap g (s .state)) ∙ xored-undo w)
-          | no other ↦ sym (xored-kept v x other) ∙ s .cells x hx ∙ xored-kept w x other
-        ];
-      }
+  xored-back {P} v w s = subst₂ (Same P) (xored-twice v) (xored-twice w) (xored-forth (xored q g v) (xored q g w) s)
 
   keeps-xor : {P : Cells} → Keeps n P P (xored q g)
   keeps-xor = record { sound = xored-sound; forth = λ v w hv hw. xored-forth v w; back = λ v w hv hw. xored-back v w }

@@ -8,12 +8,16 @@ use Rattle.lists.specs.Loop.{loop}
 use Rattle.lists.proofs.LoopLaws.{loop-ind}
 use Rattle.lists.proofs.Words.{AllWords}
 use Rattle.permutation.proofs.State.{IsState}
 use Rattle.columns.specs.Settings.{Work}
 use Rattle.matrix.proofs.Apart.{cell}
 
 -- a set of cell numbers
 abbrev pub Cells : Type 1
 Cells = ℕ → Type 0
+
+-- all cells below a number
+abbrev pub Below : ℕ → Cells
+Below n x = x < n
 
 pub record Same (P : Cells) (v w : Work) : Type 0 where
   pub state : v .state ≡ w .state

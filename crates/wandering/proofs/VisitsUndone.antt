@@ -1,33 +1,22 @@
--- A column, a visit and all visits are undone with their picks known: the state after tells the output, so both XORs are undone, also
--- on one cell; then the duplexed sum is known, and with it the state before. Assumes nothing.
+-- A visit and all visits are undone with their picks known: the state after tells the output, so both XORs are undone, also on one
+-- cell; then the duplexed sum is known, and with it the state before. Assumes nothing.
 use mathlib.Core.Path.{_≡_, refl, sym, ap, _∙_, subst}
-use Prim.Native.Nat.{ℕ, suc, _+_, _*_, _%_, _<_}
+use Prim.Native.Nat.{ℕ, suc, _*_, _%_, _<_}
 use native.Mathlib.Nat.{mod-lt}
 use native.Mathlib.Omega.{arith}
-use mathlib.Core.List.{List, [], _∷_, _++_}
+use mathlib.Core.List.{[], _∷_, _++_}
 use lib.ListN.{getD}
 use Rattle.lists.specs.Loop.{loop}
+use Rattle.lists.proofs.Traces.{Undone, loop-good, loop-forth, loop-back}
 use Rattle.permutation.specs.Inverse.{Addition}
 use Rattle.sponge.specs.Sponge.{rand}
-use Rattle.matrix.proofs.Apart.{cell}
-use Rattle.columns.specs.Settings.{Settings, Work}
-use Rattle.columns.specs.Columns.{picks, visitCells, visitWritten, visitColumn}
+use Rattle.columns.specs.Settings.{Settings, Work, settings}
+use Rattle.columns.specs.Columns.{picks, visitColumn}
 use Rattle.columns.specs.declared.Rows.{Rows}
 use Rattle.columns.specs.declared.Picks.{Picks}
-use Rattle.setup.proofs.RowBounds.{row-before}
+use Rattle.columns.proofs.View.{Same, Sound, Below}
+use Rattle.columns.proofs.ColumnSteps.{RowsBelow, picked-column-keeps}
 use Rattle.wandering.specs.Visits.{Walk, pickedRows, visitStep, visitColumns, visit, wander, columnPicks, visitData, visits}
-use Rattle.end_states.specs.EndState.{settings}
-use Rattle.end_states.proofs.View.{Same, Sound, Keeps, keeps-then}
-use Rattle.end_states.proofs.CellSteps.{Made, made-cell, made-sum, keeps-duplex, keeps-xor-output, keeps-xor-rotated}
-use Rattle.end_states.proofs.SetupSteps.{Below}
-use Rattle.lists.proofs.Traces.{Undone, loop-good, loop-forth, loop-back}
-
--- rows of a matrix of R rows
-record RowsBelow (R : ℕ) (r : Rows) : Type 0 where
-  row0 : r .row0 .0 < R
-  row1 : r .row1 .0 < R
-  prev0 : r .prev0 .0 < R
-  prev1 : r .prev1 .0 < R
 
 -- a walk over R rows of C columns
 pub record SoundWalk (R C : ℕ) (w : Walk) : Type 0 where
@@ -47,38 +36,21 @@ module _ (A : Addition) (ρ ω R C : ℕ) where
 
   -- ---- columns
 
-  visit-column : (r : Rows) → RowsBelow R r → (col : ℕ) → col < C → (p : Picks) → p .col0 .0 < C → p .col1 .0 < C
-      → Keeps (R * C) (Below (R * C)) (Below (R * C)) (visitColumn S C r col p)
-  unfolding visitColumn visitCells visitWritten
-  visit-column r below col lt p lt0 lt1 =
-      let of : (row : ℕ) → row < R → (c : ℕ) → c < C → Made (Below (R * C)) (cell (row * C + c)) =
-      λ row h c l. made-cell (row * C + c) (omega (arith, row-before row R C h)) in
-      keeps-then
-      (keeps-duplex (R * C) A ρ
-      (made-sum (made-sum (made-sum (of (r .row0 .0) (below .row0) col lt) (of (r .row1 .0) (below .row1) col lt)) (of (r .prev0 .0) (below .prev0) (p .col0 .0) lt0))
-      (of (r .prev1 .0) (below .prev1) (p .col1 .0) lt1)))
-      (keeps-then (keeps-xor-output (R * C) (r .row0 .0 * C + col)) (keeps-xor-rotated (R * C) (r .row1 .0 * C + col) ω))
-
-  picked-column : (r : Rows) → RowsBelow R r → (col : ℕ) → col < C → (s : List ℕ)
-      → Keeps (R * C) (Below (R * C)) (Below (R * C)) (visitColumn S C r col (picks S C s))
-  unfolding picks
-  picked-column r below col lt s = visit-column r below col lt (picks S C s) (mod-lt _ (omega arith)) (mod-lt _ (omega arith))
-
   columns-undone : (r : Rows) → RowsBelow R r
       → Undone C (Sound (R * C) (Below (R * C))) (Same (Below (R * C))) (λ v w. Unit {0}) (visitStep S C r) (λ k w. picks S C (w .state))
   unfolding visitStep
   columns-undone r below =
       record {
-        good = λ k lt w h. picked-column r below k lt (w .state) .sound w h;
+        good = λ k lt w h. picked-column-keeps A ρ ω R C r below k lt (w .state) .sound w h;
         met = λ k v w m e. tt;
         forth = λ k lt v w hv hw m s.
             let e = ap (picks S C) (s .state) in (
               subst (λ (p : Picks). Same (Below (R * C)) (visitColumn S C r k (picks S C (v .state)) v) (visitColumn S C r k p w)) e
-                  (picked-column r below k lt (v .state) .forth v w hv hw s),
+                  (picked-column-keeps A ρ ω R C r below k lt (v .state) .forth v w hv hw s),
               e,
             );
         back = λ k lt v w hv hw m e s.
-            picked-column r below k lt (v .state) .back v w hv hw
+            picked-column-keeps A ρ ω R C r below k lt (v .state) .back v w hv hw
             (subst (λ (p : Picks). Same (Below (R * C)) (visitColumn S C r k (picks S C (v .state)) v) (visitColumn S C r k p w)) (sym e) s);
       }
 
@@ -91,6 +63,22 @@ module _ (A : Addition) (ρ ω R C : ℕ) where
       ≡ columnPicks S C r n w ++ (picks S C (loop (visitStep S C r) n w .state) ∷ [])
   unfolding columnPicks visitColumns
   more-picks r n w = refl
+
+  module _ (r : Rows) (below : RowsBelow R r) where
+    columns-sound : (w : Work) → Sound (R * C) (Below (R * C)) w → Sound (R * C) (Below (R * C)) (visitColumns S C r C w)
+    unfolding visitColumns
+    columns-sound = loop-good (columns-undone r below) (columnPicks S C r) (no-picks r) (more-picks r) C (omega arith)
+
+    module _ (v w : Work) (hv : Sound (R * C) (Below (R * C)) v) (hw : Sound (R * C) (Below (R * C)) w) where
+      pub columns-forth : Same (Below (R * C)) v w
+          → Same (Below (R * C)) (visitColumns S C r C v) (visitColumns S C r C w) × (columnPicks S C r C v ≡ columnPicks S C r C w)
+      unfolding visitColumns
+      columns-forth = loop-forth (columns-undone r below) (columnPicks S C r) (no-picks r) (more-picks r) C (omega arith) v w hv hw tt
+
+      pub columns-back : columnPicks S C r C v ≡ columnPicks S C r C w
+          → Same (Below (R * C)) (visitColumns S C r C v) (visitColumns S C r C w) → Same (Below (R * C)) v w
+      unfolding visitColumns
+      columns-back = loop-back (columns-undone r below) (columnPicks S C r) (no-picks r) (more-picks r) C (omega arith) v w hv hw tt
 
   -- ---- a visit
 
@@ -124,12 +112,11 @@ module _ (A : Addition) (ρ ω R C : ℕ) where
   told-picks v w e = λ i. e i .columns
 
   visit-sound : (w : Walk) → SoundWalk R C w → SoundWalk R C (visit S R C w)
-  unfolding visit visitColumns
+  unfolding visit
   visit-sound w h =
-      let r = pickedRows S R w in
       let below = rows-below w h in
       record {
-        done = loop-good (columns-undone r below) (columnPicks S C r) (no-picks r) (more-picks r) C (omega arith) (w .done) (h .done);
+        done = columns-sound (pickedRows S R w) below (w .done) (h .done);
         prev0 = below .row0;
         prev1 = below .row1;
       }
@@ -140,12 +127,11 @@ module _ (A : Addition) (ρ ω R C : ℕ) where
 
   module _ (v w : Walk) (hv : SoundWalk R C v) (hw : SoundWalk R C w) (m : SameRows v w) where
     pub visit-forth : SameDone R C v w → SameDone R C (visit S R C v) (visit S R C w) × (visitData S R C v ≡ visitData S R C w)
-    unfolding visit visitColumns visitData
+    unfolding visit visitData
     visit-forth s =
         let r = pickedRows S R v in
         let e = same-rows v w (s .state) m in
-        let c =
-        loop-forth (columns-undone r (rows-below v hv)) (columnPicks S C r) (no-picks r) (more-picks r) C (omega arith) (v .done) (w .done) (hv .done) (hw .done) tt s in
+        let c = columns-forth r (rows-below v hv) (v .done) (w .done) (hv .done) (hw .done) s in
         let p : columnPicks S C (pickedRows S R v) C (v .done) ≡ columnPicks S C (pickedRows S R w) C (w .done) =
         c .1 ∙ ap (λ (q : Rows). columnPicks S C q C (w .done)) e in (
           subst (λ (q : Rows). Same (Below (R * C)) (visitColumns S C r C (v .done)) (visitColumns S C q C (w .done))) e (c .0),
@@ -153,11 +139,11 @@ module _ (A : Addition) (ρ ω R C : ℕ) where
         )
 
     pub visit-back : visitData S R C v ≡ visitData S R C w → SameDone R C (visit S R C v) (visit S R C w) → SameDone R C v w
-    unfolding visit visitColumns
+    unfolding visit
     visit-back d s =
         let r = pickedRows S R v in
         let e = told-rows v w d m in
-        loop-back (columns-undone r (rows-below v hv)) (columnPicks S C r) (no-picks r) (more-picks r) C (omega arith) (v .done) (w .done) (hv .done) (hw .done) tt
+        columns-back r (rows-below v hv) (v .done) (w .done) (hv .done) (hw .done)
         (told-picks v w d ∙ ap (λ (q : Rows). columnPicks S C q C (w .done)) (sym e))
         (subst (λ (q : Rows). Same (Below (R * C)) (visitColumns S C r C (v .done)) (visitColumns S C q C (w .done))) (sym e) s)
 
