@@ -109,34 +109,46 @@ module _ (A : Addition) (bytes bytes′ : List ℕ) (h : AllBytes bytes) (h′ :
   absorb-same-blocks (suc n) s same =
       ap₂ (absorb (A .sum) fullRounds) (same n (omega arith)) (absorb-same-blocks n s (λ i lt. same i (omega arith)))
 
-  -- at most block b is open
+  -- the blocks before block n, and block n
+  up-to : (n : ℕ) → ((i : ℕ) → i < n → block bytes i ≡ block bytes′ i) → block bytes n ≡ block bytes′ n
+      → (i : ℕ) → i < suc n → block bytes i ≡ block bytes′ i
+  up-to n before last i lt =
+      elim (ℕ-discrete i n) [
+        | yes here ↦ subst (λ (j : ℕ). block bytes j ≡ block bytes′ j) (sym here) last
+        | no other ↦ before i (omega arith)
+      ]
+
+  length-block : (l : List ℕ) (i : ℕ) → length (block l i) ≡ 8
+  length-block l i = length-words 8 (drop (64 * i) l)
+
+  -- at most block b is open: the blocks after it are undone, and the state before it tells it
   pub absorb-blocks-inj : (b n : ℕ) (s : List ℕ) → IsState s → ((i : ℕ) → i < n → i ≢ b → block bytes i ≡ block bytes′ i)
       → absorbBlocks (A .sum) n bytes s ≡ absorbBlocks (A .sum) n bytes′ s
       → (i : ℕ) → i < n → block bytes i ≡ block bytes′ i
   unfolding absorbBlocks
-  absorb-blocks-inj b zero s hs same e i lt = absurd (omega arith)
-  absorb-blocks-inj b (suc n) s hs same e i lt =
+  absorb-blocks-inj b zero s hs same e = λ i lt. absurd (omega arith)
+  absorb-blocks-inj b (suc n) s hs same e =
+      let t = absorbBlocks (A .sum) n bytes s in
+      let t′ = absorbBlocks (A .sum) n bytes′ s in
+      let ht = blocks-state A n bytes h hs in
+      let ht′ = blocks-state A n bytes′ h′ hs in
       elim (ℕ-discrete n b) [
-        | yes last ↦
+        | yes here ↦
             let before : (j : ℕ) → j < n → block bytes j ≡ block bytes′ j = λ j l. same j (omega arith) (omega arith) in
-            let one : block bytes n ≡ block bytes′ n =
-            absorbed-words A fullRounds (absorbBlocks (A .sum) n bytes s) (block bytes n) (block bytes′ n) (block-words bytes h n) (block-words bytes′ h′ n)
-            (blocks-state A n bytes h hs) (omega (arith, length-words 8 (drop (64 * n) bytes))) (length-words 8 (drop (64 * n) bytes) ∙ sym (length-words 8 (drop (64 * n) bytes′)))
-            (e ∙ ap (absorb (A .sum) fullRounds (block bytes′ n)) (sym (absorb-same-blocks n s before))) in
-            elim (ℕ-discrete i n) [ yes here ↦ subst (λ (j : ℕ). block bytes j ≡ block bytes′ j) (sym here) one | no other ↦ before i (omega arith) ]
+            up-to n before
+            (absorbed-words A fullRounds t (block bytes n) (block bytes′ n) (block-words bytes h n) (block-words bytes′ h′ n) ht
+            (omega (arith, length-block bytes n)) (length-block bytes n ∙ sym (length-block bytes′ n))
+            (e ∙ ap (absorb (A .sum) fullRounds (block bytes′ n)) (sym (absorb-same-blocks n s before))))
         | no other ↦
             let one : block bytes n ≡ block bytes′ n = same n (omega arith) other in
             let states =
-            absorb-inj A fullRounds (block bytes n) (absorbBlocks (A .sum) n bytes s) (absorbBlocks (A .sum) n bytes′ s) (block-words bytes h n)
-            (blocks-state A n bytes h hs) (blocks-state A n bytes′ h′ hs)
-            (e ∙ ap (λ (words : List ℕ). absorb (A .sum) fullRounds words (absorbBlocks (A .sum) n bytes′ s)) (sym one)) in
-            elim (ℕ-discrete i n) [
-              | yes here ↦ subst (λ (j : ℕ). block bytes j ≡ block bytes′ j) (sym here) one
-              | no elsewhere ↦ absorb-blocks-inj b n s hs (λ j l. same j (omega arith)) states i (omega arith)
-            ]
+            absorb-inj A fullRounds (block bytes n) t t′ (block-words bytes h n) ht ht′
+            (e ∙ ap (λ (words : List ℕ). absorb (A .sum) fullRounds words t′) (sym one)) in
+            up-to n (absorb-blocks-inj b n s hs (λ j l. same j (omega arith)) states) one
       ]
 
-  pub same-blocks-bytes : (n : ℕ) → length bytes ≡ 64 * n → length bytes′ ≡ 64 * n → ((i : ℕ) → i < n → block bytes i ≡ block bytes′ i) → bytes ≡ bytes′
+  pub same-blocks-bytes : (n : ℕ) → length bytes ≡ 64 * n → length bytes′ ≡ 64 * n
+      → ((i : ℕ) → i < n → block bytes i ≡ block bytes′ i) → bytes ≡ bytes′
   same-blocks-bytes n l l′ same =
       sym (take-all (64 * n) bytes (omega arith))
       ∙ pieces-same 64 n bytes bytes′
