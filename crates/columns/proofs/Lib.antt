@@ -1,2 +1,5 @@
--- The laws of rows.
+-- Where rows lie, and what a column keeps of a comparison of two works.
 pub mod RowLaws
+pub mod View
+pub mod CellSteps
+pub mod ColumnSteps

@@ -1,19 +1,16 @@
 -- Where rows lie, in a form that is linear in row · C. Assumes nothing.
-use mathlib.Core.Path.{_≡_, subst}
+use mathlib.Core.Path.{_≡_}
 use Prim.Native.Nat.{ℕ, _+_, _*_, _≤_, _<_}
 use native.Mathlib.Omega.{arith}
-use native.Mathlib.Nat.{suc-mul, mul-le-mul-right}
+use native.Mathlib.Nat.{suc-mul}
 use native.Mathlib.Numerals.{add-one}
+pub use Rattle.matrix.proofs.Apart.{row-before}
 use Rattle.columns.specs.declared.Rows.{Rows}
 use Rattle.columns.specs.Bounds.{Within}
 
 -- a whole row more
 pub row-more : (k C : ℕ) → (k + 1) * C ≡ k * C + C
 row-more k C = rw add-one (suc-mul k C)
-
--- a row ends where a later one begins or before
-pub row-before : (a b C : ℕ) → a < b → a * C + C ≤ b * C
-row-before a b C h = subst (λ (n : ℕ). n ≤ b * C) (suc-mul a C) (mul-le-mul-right C h)
 
 -- rows below R lie within a matrix of R rows
 module _ (R C n : ℕ) (room : 12 * (R * C) ≤ n) where

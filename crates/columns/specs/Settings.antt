@@ -2,12 +2,17 @@
 use Prim.Native.Nat.{ℕ}
 use mathlib.Core.List.{List}
 use Rattle.permutation.specs.Word.{plainSum}
+use Rattle.permutation.specs.Inverse.{Addition}
 use Rattle.sponge.specs.Profile.{reducedRounds}
 
 pub record Settings : Type 0 where
   pub sum : ℕ → ℕ → ℕ
   pub rounds : ℕ
   pub rotation : ℕ
+
+-- any addition that can be undone, any number of rounds, any rotation
+abbrev pub settings : Addition → ℕ → ℕ → Settings
+settings A ρ ω = record { sum = A .sum; rounds = ρ; rotation = ω }
 
 abbrev pub profile : Settings
 profile = record { sum = plainSum; rounds = reducedRounds; rotation = 2 }

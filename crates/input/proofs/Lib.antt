@@ -3,3 +3,4 @@ pub mod Padded
 pub mod Bytes
 pub mod Distinct
 pub mod Cases
+pub mod Injective

@@ -2,3 +2,5 @@
 pub mod Words
 pub mod ZipLaws
 pub mod LoopLaws
+pub mod Parts
+pub mod Traces

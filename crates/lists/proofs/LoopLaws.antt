@@ -1,10 +1,18 @@
--- The steps of a code's loop that follows a `loop`. Assumes nothing.
+-- Induction over a `loop`, and the steps of a code's loop that follows one. Assumes nothing.
 use mathlib.Core.Path.{_≡_, refl, ap, _∙_}
-use Prim.Native.Nat.{ℕ, suc, _+_}
+use Prim.Native.Nat.{ℕ, zero, suc, _+_, _<_}
 use native.Mathlib.Numerals.{add-one}
+use native.Mathlib.Omega.{arith}
 use Rattle.lists.specs.Loop.{loop}
 
 module _ {A : Type 0} (f : ℕ → A → A) where
+  -- what each step takes from the steps before it to itself and them
+  pub loop-ind : (P : ℕ → (A → A) → Type 0) → P 0 (λ a. a) → (n : ℕ)
+      → ((k : ℕ) → k < n → (g : A → A) → P k g → P (suc k) (λ a. f k (g a))) → P n (loop f n)
+  unfolding loop
+  loop-ind P none zero more = none
+  loop-ind P none (suc n) more = more n (omega arith) (loop f n) (loop-ind P none n (λ k lt. more k (omega arith)))
+
   pub loop-none : (a : A) → a ≡ loop f 0 a
   unfolding loop
   loop-none a = refl

@@ -1,2 +1,3 @@
 -- The laws of numbers as bytes.
 pub mod ByteLaws
+pub mod Injective

@@ -1,2 +1,3 @@
 -- The laws of cells.
 pub mod CellLaws
+pub mod Apart

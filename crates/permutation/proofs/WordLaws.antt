@@ -103,7 +103,7 @@ turn-undo n k both x h =
 
 -- ---- the plain sum
 
-pub plain : Addition
+unfoldable pub plain : Addition
 plain = record {
   sum = plainSum;
   back = plainBack;

@@ -1,2 +1,3 @@
 -- The laws of Setup.
 pub mod RowBounds
+pub mod SetupKeeps

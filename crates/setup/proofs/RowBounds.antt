@@ -4,7 +4,7 @@ use Prim.Native.Nat.{ℕ, _+_, _*_, _-_, _≤_}
 use native.Mathlib.Omega.{arith}
 use native.Mathlib.Nat.{add-mul}
 use Rattle.columns.specs.Bounds.{Earlier}
-use Rattle.columns.proofs.RowLaws.{row-before}
+pub use Rattle.columns.proofs.RowLaws.{row-before}
 use Rattle.setup_order.proofs.Windows.{row1-lt, prev1-lt}
 use Rattle.setup_order.specs.SetupOrder.{order}
 use Rattle.setup_order.specs.declared.Order.{Order}

@@ -38,6 +38,11 @@ module _ (A : Addition) (n : ℕ) where
       ap (λ (t : List ℕ). xorInto t words) (rounds-undo A n (xorInto s words) (xor-state words hw hs))
       ∙ zip-undo bitXor bitXor xor-undo s words
 
+  -- what is undone is injective
+  pub absorb-inj : (words s t : List ℕ) → AllWords words → IsState s → IsState t → absorb (A .sum) n words s ≡ absorb (A .sum) n words t → s ≡ t
+  absorb-inj words s t hw hs ht e =
+      sym (absorb-undo words s hw hs) ∙ ap (unabsorb (A .back) n words) e ∙ absorb-undo words t hw ht
+
   pub absorbed-words : (s vs ws : List ℕ) → AllWords vs → AllWords ws → IsState s → length vs ≤ 16 → length vs ≡ length ws
       → absorb (A .sum) n vs s ≡ absorb (A .sum) n ws s → vs ≡ ws
   unfolding absorb

@@ -4,7 +4,8 @@ use Prim.Native.Nat.{ℕ, _<_}
 use native.Mathlib.Omega.{arith}
 use mathlib.Core.List.{List}
 use lib.ListN.{length, getD}
-use Rattle.lists.proofs.ZipLaws.{length-zip, getD-zip}
+use Rattle.lists.proofs.Words.{AllWords}
+use Rattle.lists.proofs.ZipLaws.{length-zip, getD-zip, zip-words}
 use Rattle.permutation.specs.Word.{plainSum}
 use Rattle.sponge.specs.Sponge.{cellSum}
 
@@ -17,6 +18,10 @@ sum2-at n a b la lb j h = sym (getD-zip plainSum a b j (omega arith) (omega arit
 pub length-sum2 : (n : ℕ) (a b : List ℕ) → length a ≡ n → length (cellSum a b) ≡ n
 unfolding cellSum
 length-sum2 n a b la = length-zip plainSum a b ∙ la
+
+pub sum-words : (a b : List ℕ) → AllWords a → AllWords b → AllWords (cellSum a b)
+unfolding cellSum
+sum-words = zip-words plainSum (λ x y hx hy. omega arith)
 
 module _ (n : ℕ) (a b c : List ℕ) (la : length a ≡ n) (lb : length b ≡ n) (lc : length c ≡ n) where
   pub sum3-at : (j : ℕ) → j < n → plainSum (plainSum (getD a j 0) (getD b j 0)) (getD c j 0) ≡ getD (cellSum (cellSum a b) c) j 0

@@ -1,0 +1,3 @@
+-- What end states tell about the inputs.
+pub mod Walks
+pub mod EndStates
