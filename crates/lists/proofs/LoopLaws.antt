@@ -6,7 +6,7 @@ use native.Mathlib.Omega.{arith}
 use Rattle.lists.specs.Loop.{loop}
 
 module _ {A : Type 0} (f : ℕ → A → A) where
-  -- what each step takes from the steps before it to itself and them
+  -- what holds of no step, and of one step more wherever it holds of those before, holds of the loop
   pub loop-ind : (P : ℕ → (A → A) → Type 0) → P 0 (λ a. a) → (n : ℕ)
       → ((k : ℕ) → k < n → (g : A → A) → P k g → P (suc k) (λ a. f k (g a))) → P n (loop f n)
   unfolding loop
