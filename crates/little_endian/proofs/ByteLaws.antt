@@ -92,40 +92,6 @@ drop-bytes n l h i = subst (λ (x : ℕ). x < 256) (sym (getD-drop n l i 0)) (h 
 
 -- ---- bytes tell the numbers
 
--- two lists joined at the same place have the same parts
-pub append-parts : (p q r t : List ℕ) → length p ≡ length r → p ++ q ≡ r ++ t → (p ≡ r) × (q ≡ t)
-append-parts p q r t l e = (
-  sym (take-at p q (length r) l) ∙ ap (take (length r)) e ∙ take-at r t (length r) refl,
-  sym (drop-at p q (length r) l) ∙ ap (drop (length r)) e ∙ drop-at r t (length r) refl,
-)
-
-pub bytes-inj : (n x y : ℕ) → x < 2 ^ (8 * n) → y < 2 ^ (8 * n) → leBytes n x ≡ leBytes n y → x ≡ y
-unfolding leBytes
-bytes-inj zero x y hx hy e = omega arith
-bytes-inj (suc n) x y hx hy e =
-    let more : 8 * suc n ≡ 8 * n + 8 = omega arith in
-    let low : x % 256 ≡ y % 256 = cc in
-    let rest : leBytes n (x / 256) ≡ leBytes n (y / 256) = cc in
-    let high : x / 256 ≡ y / 256 =
-    bytes-inj n (x / 256) (y / 256) (shr-lt (8 * n) 8 (subst (λ (k : ℕ). x < 2 ^ k) more hx))
-    (shr-lt (8 * n) 8 (subst (λ (k : ℕ). y < 2 ^ k) more hy)) rest
-    in
-    omega arith
-
--- every number of a list fits n bytes
-abbrev pub AllFit : ℕ → List ℕ → Type 0
-AllFit n xs = (i : ℕ) → getD xs i 0 < 2 ^ (8 * n)
-
-pub each-inj : (n : ℕ) (xs ys : List ℕ) → length xs ≡ length ys → AllFit n xs → AllFit n ys → leEach n xs ≡ leEach n ys → xs ≡ ys
-unfolding leEach
-each-inj n [] [] l hx hy e = refl
-each-inj n [] (y ∷ ys) l hx hy e = absurd (omega arith)
-each-inj n (x ∷ xs) [] l hx hy e = absurd (omega arith)
-each-inj n (x ∷ xs) (y ∷ ys) l hx hy e =
-    let parts = append-parts (leBytes n x) (leEach n xs) (leBytes n y) (leEach n ys) (length-bytes n x ∙ sym (length-bytes n y)) e in
-    ap₂ (λ (a : ℕ) (t : List ℕ). a ∷ t) (bytes-inj n x y (hx zero) (hy zero) (parts .0))
-    (each-inj n xs ys (suc-inj l) (λ i. hx (suc i)) (λ i. hy (suc i)) (parts .1))
-
 -- a word at a place, read from its highest byte down: the value of its bytes from i on
 module _ (bytes : List ℕ) (at : ℕ) where
   abbrev pub from : ℕ → ℕ
@@ -173,18 +139,3 @@ words-fit (suc n) bytes h zero =
 words-fit (suc n) bytes h (suc i) = words-fit n (drop 8 bytes) (drop-bytes 8 bytes h) i
 
 -- ---- numbers tell the bytes
-
-pub value-inj : (l m : List ℕ) → AllBytes l → AllBytes m → length l ≡ length m → leValue l ≡ leValue m → l ≡ m
-value-inj l m hl hm n e = sym (bytes-value l hl) ∙ ap₂ leBytes n e ∙ bytes-value m hm
-
-pub words-inj : (n : ℕ) (l m : List ℕ) → AllBytes l → AllBytes m → 8 * n ≤ length l → 8 * n ≤ length m → leWords n l ≡ leWords n m → take (8 * n) l ≡ take (8 * n) m
-unfolding leWords
-words-inj zero l m hl hm nl nm e = refl
-words-inj (suc n) l m hl hm nl nm e =
-    let more : 8 * suc n ≡ 8 + 8 * n = omega arith in
-    let word : leValue (take 8 l) ≡ leValue (take 8 m) = cc in
-    let rest : leWords n (drop 8 l) ≡ leWords n (drop 8 m) = cc in
-    let eight : length (take 8 l) ≡ length (take 8 m) = simp length-take (omega arith) in
-    rw (more, take-add 8 (8 * n) l, take-add 8 (8 * n) m)
-    (ap₂ _++_ (value-inj (take 8 l) (take 8 m) (take-bytes 8 l hl) (take-bytes 8 m hm) eight word)
-    (words-inj n (drop 8 l) (drop 8 m) (drop-bytes 8 l hl) (drop-bytes 8 m hm) (omega (arith, length-drop 8 l)) (omega (arith, length-drop 8 m)) rest))

@@ -31,10 +31,13 @@ returns : tie.Need-returns
 returns c =
     let i = c .before .before .before .before .before .before .before .before .before .before .absorb-input in
     let w = c .before .before .before .before .before .before .walk in
-    let a = c .before .before .before .before .before .before .before .before .before .before .before .before .before .before .before .before .args in
-    (i .ensures .1, w .ensures .0, w .ensures .1,
-    w .ensures .2 ∙ ap (λ (x : List ℕ). walkEnd profile (a .time) (a .rows) (a .columns) x (now (a .m))) (i .ensures .0),
-    w .ensures .3 ∙ ap (λ (x : List ℕ). putInto (now (a .«record»)) (encode (walkVisits profile (a .time) (a .rows) (a .columns) x (now (a .m))))) (i .ensures .0))
+    let a = c .before .before .before .before .before .before .before .before .before .before .before .before .before .before .before .before .args in (
+      i .ensures .1,
+      w .ensures .0,
+      w .ensures .1,
+      w .ensures .2 ∙ ap (λ (x : List ℕ). walkEnd profile (a .time) (a .rows) (a .columns) x (now (a .m))) (i .ensures .0),
+      w .ensures .3 ∙ ap (λ (x : List ℕ). putInto (now (a .«record»)) (encode (walkVisits profile (a .time) (a .rows) (a .columns) x (now (a .m))))) (i .ensures .0),
+    )
 
 pub run-spec : {M : Type 1} → statement M
 run-spec =

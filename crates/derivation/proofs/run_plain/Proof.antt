@@ -40,10 +40,12 @@ same-length c = search needs
 returns : tie.Need-returns
 returns c =
     let r = c .before .before .before .before .before .before .before .run in
-    let a = c .before .before .before .before .before .before .before .before .before .before .before .before .before .before .args in
-    (ap (λ (n : ℕ). n + 1) (r .ensures .0), r .ensures .1,
-    final-state profile (a .columns) _ _ _ _ (r .result .row0 .0) (r .result .row1 .0) (r .ensures .3) (c .before .absorb-last .ensures),
-    ap (λ (u : Walk). u .done .matrix) (r .ensures .3))
+    let a = c .before .before .before .before .before .before .before .before .before .before .before .before .before .before .args in (
+      ap (λ (n : ℕ). n + 1) (r .ensures .0),
+      r .ensures .1,
+      final-state profile (a .columns) _ _ _ _ (r .result .row0 .0) (r .result .row1 .0) (r .ensures .3) (c .before .absorb-last .ensures),
+      ap (λ (u : Walk). u .done .matrix) (r .ensures .3),
+    )
 
 pub run-plain-spec : {M : Type 1} → statement M
 run-plain-spec =
