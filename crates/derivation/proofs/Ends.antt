@@ -49,3 +49,7 @@ module _ (k : ℕ) (password salt : List ℕ) (T R C : ℕ) (m s₀ : List ℕ) 
   pub matrix-end : walkEnd profile T R C (absorbInput plainSum password salt (numbers k password salt T R C) s₀) m .done .matrix ≡ endMatrix profile k password salt T R C m
   unfolding endMatrix
   matrix-end = ap (λ (w : Walk). w .done .matrix) input-end
+
+  pub visits-end : walkVisits profile T R C (absorbInput plainSum password salt (numbers k password salt T R C) s₀) m ≡ walkVisits profile T R C (inputState profile k password salt T R C) m
+  unfolding inputState absorbed
+  visits-end = ap (λ (x : List ℕ). walkVisits profile T R C (absorbInput plainSum password salt (numbers k password salt T R C) x) m) e

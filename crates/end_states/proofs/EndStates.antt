@@ -12,6 +12,7 @@ use Rattle.permutation.proofs.WordLaws.{plain}
 use Rattle.permutation.proofs.State.{IsState}
 use Rattle.columns.specs.Settings.{settings, profile}
 use Rattle.input.specs.Input.{numbers, absorbed}
+use Rattle.derivation.specs.Derivation.{inputState}
 use Rattle.input.proofs.Bytes.{absorbed-state}
 use Rattle.input.proofs.Injective.{absorbed-inj}
 use Rattle.end_states.specs.Calls.{Call, Fits, OneBlockApart, SameEnd, SameInput, inputBlocks, paddedInput, absorbedState}
@@ -19,22 +20,22 @@ use Rattle.end_states.proofs.Walks.{walk-forth, walk-back}
 
 module _ (A : Addition) (ρ ω T R C : ℕ) (least : 3 ≤ R) (x y : Call) (fx : Fits R C x) (fy : Fits R C y) where
   is-state : (z : Call) → Fits R C z → IsState (absorbedState (settings A ρ ω) T R C z)
-  unfolding absorbedState
+  unfolding absorbedState inputState
   is-state z fz = absorbed-state A (z .password) (z .salt) (numbers (z .keyLength) (z .password) (z .salt) T R C) (fz .password-bytes) (fz .salt-bytes)
 
   pub same-input-same-end : SameInput x y → SameEnd (settings A ρ ω) T R C x y
-  unfolding absorbedState
+  unfolding absorbedState inputState
   same-input-same-end i =
       let e : absorbedState (settings A ρ ω) T R C x ≡ absorbedState (settings A ρ ω) T R C y =
       λ j. absorbed (A .sum) (i .password j) (i .salt j) (numbers (i .keyLength j) (i .password j) (i .salt j) T R C) in
       let ends = walk-forth A ρ ω T R C least _ (x .matrix) _ (y .matrix) (is-state x fx) (is-state y fy) (fx .room) (fy .room) e in
-      record { state = ends .0; usedMatrix = ends .1; usedRecord = ends .2 }
+      record { states = ends .0; matrices = ends .1; records = ends .2 }
 
   pub same-end-same-input : (b : ℕ) → OneBlockApart T R C b x y → SameEnd (settings A ρ ω) T R C x y → SameInput x y
-  unfolding absorbedState paddedInput inputBlocks
+  unfolding absorbedState inputState paddedInput inputBlocks
   same-end-same-input b apart ends =
       let e : absorbedState (settings A ρ ω) T R C x ≡ absorbedState (settings A ρ ω) T R C y =
-      walk-back A ρ ω T R C least _ (x .matrix) _ (y .matrix) (is-state x fx) (is-state y fy) (fx .room) (fy .room) (ends .state) (ends .usedMatrix) (ends .usedRecord) in
+      walk-back A ρ ω T R C least _ (x .matrix) _ (y .matrix) (is-state x fx) (is-state y fy) (fx .room) (fy .room) (ends .states) (ends .matrices) (ends .records) in
       let told =
       absorbed-inj A (x .keyLength) (y .keyLength) (x .password) (x .salt) (y .password) (y .salt) (T ∷ R ∷ C ∷ []) (T ∷ R ∷ C ∷ []) refl
       (fx .password-bytes) (fx .salt-bytes) (fy .password-bytes) (fy .salt-bytes)

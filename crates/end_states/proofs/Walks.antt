@@ -12,7 +12,8 @@ use Rattle.columns.specs.Settings.{Settings, Work, settings, work}
 use Rattle.setup_order.proofs.Windows.{prev1-lt}
 use Rattle.wandering.specs.Visits.{wander}
 use Rattle.wandering.specs.Encoding.{encode}
-use Rattle.end_states.specs.EndState.{startWalk, endWalk, endState, endMatrix, endRecord}
+use Rattle.derivation.specs.Derivation.{setupEnd, walkEnd, walkVisits}
+use Rattle.end_states.specs.EndState.{lastState, usedMatrix, usedRecord}
 use Rattle.columns.proofs.View.{Same, Sound, Below}
 use Rattle.setup.proofs.SetupKeeps.{setup-keeps}
 use Rattle.wandering.proofs.VisitsUndone.{SoundWalk, SameDone, SameRows, wander-forth, wander-back}
@@ -33,8 +34,8 @@ module _ (A : Addition) (ρ ω T R C : ℕ) (least : 3 ≤ R) where
   before-setup : (s m : List ℕ) → IsState s → 12 * (R * C) ≤ length m → Sound (R * C) (Below (0 * C)) (work s m)
   before-setup s m hs fits = record { state = hs; fits = fits; words = λ q none. absurd (omega arith) }
 
-  start-sound : (s m : List ℕ) → IsState s → 12 * (R * C) ≤ length m → SoundWalk R C (startWalk S R C s m)
-  unfolding startWalk
+  start-sound : (s m : List ℕ) → IsState s → 12 * (R * C) ≤ length m → SoundWalk R C (setupEnd S R C s m)
+  unfolding setupEnd
   start-sound s m hs fits =
       record {
         done = setup-keeps A ρ ω R C least .sound (work s m) (before-setup s m hs fits);
@@ -42,37 +43,37 @@ module _ (A : Addition) (ρ ω T R C : ℕ) (least : 3 ≤ R) where
         prev1 = omega (arith, prev1-lt (R - 3));
       }
 
-  start-rows : (s m t l : List ℕ) → SameRows (startWalk S R C s m) (startWalk S R C t l)
-  unfolding startWalk
+  start-rows : (s m t l : List ℕ) → SameRows (setupEnd S R C s m) (setupEnd S R C t l)
+  unfolding setupEnd
   start-rows s m t l = (refl, refl)
 
   module _ (s m t l : List ℕ) (hs : IsState s) (ht : IsState t) (fm : 12 * (R * C) ≤ length m) (fl : 12 * (R * C) ≤ length l) where
-    pub setup-forth : s ≡ t → SameDone R C (startWalk S R C s m) (startWalk S R C t l)
-    unfolding startWalk
+    pub setup-forth : s ≡ t → SameDone R C (setupEnd S R C s m) (setupEnd S R C t l)
+    unfolding setupEnd
     setup-forth e =
         setup-keeps A ρ ω R C least .forth (work s m) (work t l) (before-setup s m hs fm) (before-setup t l ht fl)
         (record { state = e; cells = λ q none. absurd (omega arith) })
 
-    pub setup-back : SameDone R C (startWalk S R C s m) (startWalk S R C t l) → s ≡ t
-    unfolding startWalk
+    pub setup-back : SameDone R C (setupEnd S R C s m) (setupEnd S R C t l) → s ≡ t
+    unfolding setupEnd
     setup-back same =
         setup-keeps A ρ ω R C least .back (work s m) (work t l) (before-setup s m hs fm) (before-setup t l ht fl) same .state
 
     pub walk-forth : s ≡ t
-        → (endState S T R C s m ≡ endState S T R C t l) × (endMatrix S T R C s m ≡ endMatrix S T R C t l) × (endRecord S T R C s m ≡ endRecord S T R C t l)
-    unfolding endWalk endState endMatrix endRecord
+        → (lastState S T R C s m ≡ lastState S T R C t l) × (usedMatrix S T R C s m ≡ usedMatrix S T R C t l) × (usedRecord S T R C s m ≡ usedRecord S T R C t l)
+    unfolding walkEnd walkVisits lastState usedMatrix usedRecord
     walk-forth e =
-        let v = startWalk S R C s m in
-        let w = startWalk S R C t l in
+        let v = setupEnd S R C s m in
+        let w = setupEnd S R C t l in
         let ends = wander-forth A ρ ω R C (R * T) v w (start-sound s m hs fm) (start-sound t l ht fl) (start-rows s m t l) (setup-forth e) in
         (ends .0 .state, used-told (R * C) _ _ (ends .0), ap encode (ends .1))
 
-    pub walk-back : endState S T R C s m ≡ endState S T R C t l → endMatrix S T R C s m ≡ endMatrix S T R C t l
-        → endRecord S T R C s m ≡ endRecord S T R C t l → s ≡ t
-    unfolding endWalk endState endMatrix endRecord
+    pub walk-back : lastState S T R C s m ≡ lastState S T R C t l → usedMatrix S T R C s m ≡ usedMatrix S T R C t l
+        → usedRecord S T R C s m ≡ usedRecord S T R C t l → s ≡ t
+    unfolding walkEnd walkVisits lastState usedMatrix usedRecord
     walk-back state matrix visited =
-        let v = startWalk S R C s m in
-        let w = startWalk S R C t l in
+        let v = setupEnd S R C s m in
+        let w = setupEnd S R C t l in
         let told = encode-inj C _ _ (visits-of-columns S R C (R * T) v) (visits-of-columns S R C (R * T) w) visited in
         setup-back
         (wander-back A ρ ω R C (R * T) v w (start-sound s m hs fm) (start-sound t l ht fl) (start-rows s m t l) told

@@ -5,8 +5,9 @@ use Prim.Native.Nat.{ℕ, _*_, _^_, _≤_, _<_}
 use mathlib.Core.List.{List}
 use lib.ListN.{length, getD}
 use Rattle.columns.specs.Settings.{Settings}
-use Rattle.input.specs.Input.{numbers, padded, blocks, block, absorbed}
-use Rattle.end_states.specs.EndState.{endState, endMatrix, endRecord}
+use Rattle.input.specs.Input.{numbers, padded, blocks, block}
+use Rattle.derivation.specs.Derivation.{inputState}
+use Rattle.end_states.specs.EndState.{lastState, usedMatrix, usedRecord}
 
 -- a derivation's own input and the matrix lent to it; T, R, C and the settings are shared by a pair
 pub record Call : Type 0 where
@@ -38,12 +39,12 @@ pub record OneBlockApart (T R C b : ℕ) (x y : Call) : Type 0 where
 -- ---- what is compared
 
 unfoldable pub absorbedState : Settings → ℕ → ℕ → ℕ → Call → List ℕ
-absorbedState S T R C x = absorbed (S .sum) (x .password) (x .salt) (numbers (x .keyLength) (x .password) (x .salt) T R C)
+absorbedState S T R C x = inputState S (x .keyLength) (x .password) (x .salt) T R C
 
 pub record SameEnd (S : Settings) (T R C : ℕ) (x y : Call) : Type 0 where
-  pub state : endState S T R C (absorbedState S T R C x) (x .matrix) ≡ endState S T R C (absorbedState S T R C y) (y .matrix)
-  pub usedMatrix : endMatrix S T R C (absorbedState S T R C x) (x .matrix) ≡ endMatrix S T R C (absorbedState S T R C y) (y .matrix)
-  pub usedRecord : endRecord S T R C (absorbedState S T R C x) (x .matrix) ≡ endRecord S T R C (absorbedState S T R C y) (y .matrix)
+  pub states : lastState S T R C (absorbedState S T R C x) (x .matrix) ≡ lastState S T R C (absorbedState S T R C y) (y .matrix)
+  pub matrices : usedMatrix S T R C (absorbedState S T R C x) (x .matrix) ≡ usedMatrix S T R C (absorbedState S T R C y) (y .matrix)
+  pub records : usedRecord S T R C (absorbedState S T R C x) (x .matrix) ≡ usedRecord S T R C (absorbedState S T R C y) (y .matrix)
 
 pub record SameInput (x y : Call) : Type 0 where
   pub password : x .password ≡ y .password

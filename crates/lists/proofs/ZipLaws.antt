@@ -172,3 +172,10 @@ pub put-snoc : (a : ℕ) (xs ys : List ℕ) (v : ℕ) → zipAt (λ x y. y) a xs
 put-snoc a xs ys v =
     put-append a xs ys (v ∷ []) ∙ put-suc (a + length ys) (zipAt (λ x y. y) a xs ys) v []
     ∙ zipAt-none (λ x y. y) (suc (a + length ys)) (set (zipAt (λ x y. y) a xs ys) (a + length ys) v)
+
+-- what was put is what stands in front
+pub put-front : (xs ys : List ℕ) → length ys ≤ length xs → take (length ys) (putInto xs ys) ≡ ys
+unfolding zipInto
+put-front xs [] h = refl
+put-front [] (y ∷ ys) h = absurd (not-suc-le-zero h)
+put-front (x ∷ xs) (y ∷ ys) h = ap (λ (l : List ℕ). y ∷ l) (put-front xs ys (le-of-suc-le-suc h))

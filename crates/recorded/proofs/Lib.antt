@@ -1,0 +1,2 @@
+-- The laws of the recorded derivation's contract.
+pub mod Contract

@@ -1,0 +1,2 @@
+-- The recorded derivation.
+pub mod Recording
