@@ -4,11 +4,13 @@ use derivation::Costs;
 ghost use mathlib.Core.Path.{_≡_};
 ghost use mathlib.Core.List.{[], _∷_};
 ghost use lib.ListN.{length};
-ghost use Rattle.refusals.specs.Checks.{first, costChecks, plainChecks};
+ghost use Rattle.refusals.specs.Checks.{first, costChecks, plainChecks, recordedChecks};
 ghost use Rattle.columns.specs.Settings.{profile};
 ghost use Rattle.key.specs.Key.{sameBytes};
 ghost use Rattle.derivation.specs.Answers.{answered, costAnswer};
 ghost use Rattle.derivation.specs.Derivation.{keyOf, endMatrix};
+ghost use Rattle.lists.specs.Zip.{putInto};
+ghost use Rattle.recorded.specs.Recording.{endState, endRecord};
 ghost use Rattle.walk_question.specs.Question.{walkAnswer};
 ghost use Rattle.derivation_export.specs.Counts.{stored as «counts-stored», costsStored, flag as «number-of»};
 
@@ -111,5 +113,42 @@ pub extern "C" fn lyra2_walk(rows: usize, row0: usize, row1: &mut usize) -> u32
     if a.refusal == 0 {
         *row1 = a.row1;
     }
+    a.refusal
+}
+
+// Stores the state of a recorded derivation that was carried out.
+fn store_state(refusal: u32, words: [u64; 16], state: &mut [u64; 16])
+    ensures { λ _. ⌜ now (state .exit) ≡ answered refusal words (now (state .entry)) ⌝ }
+{
+    if refusal == 0 {
+        *state = words;
+    }
+}
+
+// The recorded derivation: fills the key, the used matrix, the used record and the state after the last visit.
+#[no_mangle]
+pub extern "C" fn lyra2_derive_recorded(
+    password: &[u8],
+    salt: &[u8],
+    time: usize,
+    rows: usize,
+    columns: usize,
+    key: &mut [u8],
+    matrix: &mut [u64],
+    record: &mut [u64],
+    state: &mut [u64; 16],
+    counts: &mut [u64; 3],
+) -> u32
+    ensures { λ r. ⌜ r ≡ first (recordedChecks (length (now (key .entry))) (length (now (password .entry))) (length (now (salt .entry))) time rows columns (length (now (matrix .entry))) (length (now («record» .entry)))) ⌝ }
+    ensures { λ r. ⌜ now (key .exit) ≡ answered r (keyOf profile (length (now (key .entry))) (now (password .entry)) (now (salt .entry)) time rows columns (now (matrix .entry))) (now (key .entry)) ⌝ }
+    ensures { λ r. ⌜ now (matrix .exit) ≡ answered r (endMatrix profile (length (now (key .entry))) (now (password .entry)) (now (salt .entry)) time rows columns (now (matrix .entry))) (now (matrix .entry)) ⌝ }
+    ensures { λ r. ⌜ now («record» .exit) ≡ answered r (putInto (now («record» .entry)) (endRecord (length (now (key .entry))) (now (password .entry)) (now (salt .entry)) time rows columns (now (matrix .entry)))) (now («record» .entry)) ⌝ }
+    ensures { λ r. ⌜ now (state .exit) ≡ answered r (endState (length (now (key .entry))) (now (password .entry)) (now (salt .entry)) time rows columns (now (matrix .entry))) (now (state .entry)) ⌝ }
+    ensures { λ r. ⌜ now (counts .exit) ≡ costsStored (costAnswer r (length (now (key .entry))) (length (now (password .entry))) (length (now (salt .entry))) time rows columns) (now (counts .entry)) ⌝ }
+{
+    let a = recorded::derive_recorded(password, salt, time, rows, columns, key, matrix, record);
+    let words = a.state;
+    store_state(a.refusal, words, state);
+    store_counts(a.refusal, a.full, a.reduced, a.rounds, counts);
     a.refusal
 }

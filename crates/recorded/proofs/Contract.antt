@@ -1,5 +1,5 @@
 -- The two ways in which the recorded derivation meets its contract. Assumes nothing.
-use mathlib.Core.Path.{_≡_, sym, ap, _∙_}
+use mathlib.Core.Path.{_≡_, sym, ap, ap₂, _∙_}
 use Prim.Native.Nat.{ℕ}
 use mathlib.Core.List.{List}
 use lib.ListN.{length, replicate}
@@ -8,7 +8,7 @@ use Rattle.refusals.proofs.Accepted.{RecordedBounds, recorded-bounds}
 use Rattle.lists.specs.Zip.{putInto}
 use Rattle.columns.specs.Settings.{profile}
 use Rattle.refusals.specs.Checks.{first, recordedChecks}
-use Rattle.derivation.specs.Answers.{answered, spentOn, costs, noCosts}
+use Rattle.derivation.specs.Answers.{answered, spentOn, costs, noCosts, costAnswer}
 use Rattle.derivation.specs.Derivation.{keyOf, endMatrix}
 use Rattle.derivation.proofs.Answering.{answered-yes, answered-no}
 use Rattle.recorded.specs.declared.Recorded.{Recorded}
@@ -72,3 +72,13 @@ module _ (p s : List ℕ) (T R C : ℕ) (key matrix visited key′ matrix′ vis
 
   pub derived-visited : visited′ ≡ putInto visited (endRecord (length key) p s T R C matrix)
   derived-visited = d .visited-after ∙ answered-yes _ _ _ accepted
+
+-- the answer is the costs' with a state
+pub recorded-split : (n k : ℕ) (p s : List ℕ) (T R C : ℕ) (m : List ℕ)
+    → recordedAnswer n k p s T R C m ≡ withState (costAnswer n k (length p) (length s) T R C) (answered n (endState k p s T R C m) (replicate 16 0))
+unfolding recordedAnswer costAnswer
+recorded-split n k p s T R C m = go (ℕ-discrete n 0)
+  where
+    go : Dec (n ≡ 0) → recordedAnswer n k p s T R C m ≡ withState (costAnswer n k (length p) (length s) T R C) (answered n (endState k p s T R C m) (replicate 16 0))
+    go (yes z) = answered-yes n _ _ z ∙ sym (ap₂ withState (answered-yes n (costs k (length p) (length s) T R C) (noCosts n) z) (answered-yes n (endState k p s T R C m) (replicate 16 0) z))
+    go (no h) = answered-no n _ _ h ∙ sym (ap₂ withState (answered-no n (costs k (length p) (length s) T R C) (noCosts n) h) (answered-no n (endState k p s T R C m) (replicate 16 0) h))
