@@ -1,0 +1,4 @@
+-- Statements about the whole base, and their proofs.
+pub mod Cases
+pub mod Independence
+pub mod SameKey

@@ -1,0 +1,3 @@
+-- Statements about the whole base.
+pub mod BenchCases
+pub mod Calls
