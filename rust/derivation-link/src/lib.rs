@@ -3,11 +3,12 @@
 //! [`library`] is the C interface with slices. [`Proved`] gives it the form that the vectors file and the
 //! second program share, and [`compare`] holds it against that program on random inputs.
 
-#![deny(unsafe_op_in_unsafe_fn)]
+#![deny(unsafe_code)]
 #![warn(missing_docs)]
 
 pub mod compare;
 pub mod guarded;
+#[allow(unsafe_code)]
 pub mod library;
 
 use library::Costs;
