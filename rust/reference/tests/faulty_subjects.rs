@@ -2,7 +2,7 @@
 
 mod common;
 
-use lyra2_reference::vectors::{run, Case, Question, Reference, Subject};
+use lyra2_reference::vectors::{run, Answer, Case, Coverage, Question, Reference, Subject};
 use lyra2_reference::{Checked, Counts, Inputs, Parameters, Recorded, Refusal};
 
 #[derive(Clone, Copy, Debug, PartialEq, Eq)]
@@ -66,9 +66,9 @@ impl Subject for Faulty {
         key: &mut [u8],
         matrix: &mut [u64],
         record: &mut [u64],
-    ) -> Result<Recorded, Refusal> {
+    ) -> Option<Result<Recorded, Refusal>> {
         let given = inputs.parameters(key.len());
-        let mut answer = Reference.derive_recorded(inputs, key, matrix, record);
+        let mut answer = Reference.derive_recorded(inputs, key, matrix, record)?;
         if let Ok(recorded) = &mut answer {
             self.spoil_counts(&mut recorded.counts);
             match self.0 {
@@ -88,7 +88,7 @@ impl Subject for Faulty {
                 _ => (),
             }
         }
-        self.spoil_refusal(answer)
+        Some(self.spoil_refusal(answer))
     }
 
     fn derive(
@@ -140,12 +140,12 @@ impl Subject for Faulty {
         Ok(row1 + u64::from(wrong))
     }
 
-    fn walk_program(&self, input: &[u8]) -> Vec<u8> {
-        let mut output = Reference.walk_program(input);
+    fn walk_program(&self, input: &[u8]) -> Option<Vec<u8>> {
+        let mut output = Reference.walk_program(input)?;
         if self.0 == WalkEnd && output.len() > 100_000 {
             output.pop();
         }
-        output
+        Some(output)
     }
 }
 
@@ -196,6 +196,70 @@ fn every_fault_is_noticed() {
 #[test]
 fn no_fault_is_noticed_where_there_is_none() {
     for case in small_cases() {
-        assert_eq!(run::check_case(&Faulty(Nothing), &case), Ok(()));
+        let outcome = run::check_case(&Faulty(Nothing), &case);
+        assert_eq!(outcome, Ok(Coverage::Whole));
+    }
+}
+
+/// A faulty program without the recorded derivation and the walk program.
+struct Partial(Faulty);
+
+impl Subject for Partial {
+    fn derive(
+        &self,
+        inputs: &Inputs,
+        key: &mut [u8],
+        matrix: &mut [u64],
+    ) -> Result<Counts, Refusal> {
+        self.0.derive(inputs, key, matrix)
+    }
+
+    fn check(
+        &self,
+        inputs: &Inputs,
+        stored: &[u8],
+        matrix: &mut [u64],
+    ) -> Result<Checked, Refusal> {
+        self.0.check(inputs, stored, matrix)
+    }
+
+    fn cost(&self, given: &Parameters) -> Result<Counts, Refusal> {
+        self.0.cost(given)
+    }
+
+    fn walk(&self, r: u64, row0: u64) -> Result<u64, Refusal> {
+        self.0.walk(r, row0)
+    }
+}
+
+/// The recorded derivations tell something about the other operations, also where a program lacks them.
+#[test]
+fn faults_of_a_partial_program_are_noticed_in_the_recorded_derivations() {
+    let mut cases = small_cases();
+    cases.retain(|case| matches!(case.question, Question::DeriveRecorded { .. }));
+    for fault in [
+        PlainKey,
+        PlainMatrixKept,
+        CheckSaysYes,
+        CheckSaysNo,
+        CheckMatrixKept,
+        CostOfNoPadding,
+    ] {
+        let noticed = |case: &Case| run::check_case(&Partial(Faulty(fault)), case).is_err();
+        assert!(cases.iter().any(noticed), "{fault:?}");
+    }
+}
+
+#[test]
+fn a_partial_program_is_held_against_what_it_has() {
+    for case in small_cases() {
+        let expected = match (&case.question, &case.answer) {
+            (Question::WalkProgram { .. }, _) => Coverage::Nothing,
+            (_, Answer::Refused(Refusal::RecordWords)) => Coverage::Nothing,
+            (Question::DeriveRecorded { .. }, _) => Coverage::SharedPart,
+            _ => Coverage::Whole,
+        };
+        let found = run::check_case(&Partial(Faulty(Fault::Nothing)), &case);
+        assert_eq!(found, Ok(expected));
     }
 }

@@ -2,7 +2,7 @@
 
 mod common;
 
-use lyra2_reference::vectors::{chosen_text, run, write, Answer, Question, Reference};
+use lyra2_reference::vectors::{chosen_text, run, write, Answer, Coverage, Question, Reference};
 use std::collections::{BTreeMap, BTreeSet};
 
 #[test]
@@ -33,7 +33,7 @@ fn small_cases_hold_and_the_operations_agree() {
     assert!(cases.len() > 2000);
     for (line, case) in cases {
         let outcome = run::check_case(&Reference, &case);
-        assert_eq!(outcome, Ok(()), "line {line}");
+        assert_eq!(outcome, Ok(Coverage::Whole), "line {line}");
     }
 }
 

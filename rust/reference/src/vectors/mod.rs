@@ -18,6 +18,7 @@ pub mod write;
 
 pub use case::{Answer, Bytes, Case, Given, Question};
 pub use read::{read, Problem};
+pub use run::Coverage;
 pub use subject::{Reference, Subject};
 
 /// The questions of the vectors file, in its order.

@@ -7,31 +7,51 @@ use super::{checksum, lent, write};
 use crate::refusal::Refusal;
 use crate::{Counts, Inputs};
 
-/// Puts a question. An error says which lent place was changed that should have kept its contents.
+/// How much of a case a program could be held against.
+#[derive(Clone, Copy, Debug, PartialEq, Eq)]
+pub enum Coverage {
+    /// The case's own operation was asked.
+    Whole,
+    /// The program lacks that operation; others were asked for what they share of the answer.
+    SharedPart,
+    /// The program has no operation that the case tells something about.
+    Nothing,
+}
+
+/// Puts a question. An error says which lent place was changed that should have kept its contents, or
+/// that the program lacks the operation.
 pub fn ask(subject: &impl Subject, question: &Question) -> Result<Answer, String> {
-    match question {
+    let lacking = || format!("the program has no {}", write::op(question));
+    ask_if_offered(subject, question)?.ok_or_else(lacking)
+}
+
+/// Puts a question; None says that the program lacks the operation.
+fn ask_if_offered(subject: &impl Subject, question: &Question) -> Result<Option<Answer>, String> {
+    let answer = match question {
         Question::DeriveRecorded {
             given,
             key_len,
             record_words,
             in_full,
-        } => ask_recorded(subject, given, *key_len, *record_words, *in_full),
-        Question::Derive { given, key_len } => ask_plain(subject, given, *key_len),
-        Question::Check { given, stored } => ask_check(subject, given, stored),
-        Question::Cost(given) => Ok(subject
+        } => return ask_recorded(subject, given, *key_len, *record_words, *in_full),
+        Question::Derive { given, key_len } => ask_plain(subject, given, *key_len)?,
+        Question::Check { given, stored } => ask_check(subject, given, stored)?,
+        Question::Cost(given) => subject
             .cost(given)
-            .map_or_else(Answer::Refused, Answer::Cost)),
-        Question::Walk { r, row0 } => Ok(subject
+            .map_or_else(Answer::Refused, Answer::Cost),
+        Question::Walk { r, row0 } => subject
             .walk(*r, *row0)
-            .map_or_else(Answer::Refused, |row1| Answer::Walk { row1 })),
-        Question::WalkProgram { input } => {
-            let output = subject.walk_program(input);
-            let len = output.len() as u64;
-            let sum = checksum::of_bytes(output.iter().copied());
-            let listed = (len <= LISTED_OUTPUT_BYTES).then_some(output);
-            Ok(Answer::Output(Output { len, sum, listed }))
-        }
-    }
+            .map_or_else(Answer::Refused, |row1| Answer::Walk { row1 }),
+        Question::WalkProgram { input } => return Ok(subject.walk_program(input).map(output)),
+    };
+    Ok(Some(answer))
+}
+
+fn output(bytes: Vec<u8>) -> Answer {
+    let len = bytes.len() as u64;
+    let sum = checksum::of_bytes(bytes.iter().copied());
+    let listed = (len <= LISTED_OUTPUT_BYTES).then_some(bytes);
+    Answer::Output(Output { len, sum, listed })
 }
 
 fn ask_recorded(
@@ -40,7 +60,7 @@ fn ask_recorded(
     key_len: u64,
     record_words: u64,
     in_full: bool,
-) -> Result<Answer, String> {
+) -> Result<Option<Answer>, String> {
     let mut key = lent::key(key_len);
     let mut matrix = lent::words(given.matrix_words);
     let mut record = lent::words(record_words);
@@ -48,25 +68,26 @@ fn ask_recorded(
         subject.derive_recorded(inputs, &mut key, &mut matrix, &mut record)
     });
     let recorded = match answer {
-        Ok(recorded) => recorded,
-        Err(refusal) => {
+        None => return Ok(None),
+        Some(Ok(recorded)) => recorded,
+        Some(Err(refusal)) => {
             lent::key_is_kept(&key)?;
             lent::words_are_kept("matrix", &matrix, 0)?;
             lent::words_are_kept("record", &record, 0)?;
-            return Ok(Answer::Refused(refusal));
+            return Ok(Some(Answer::Refused(refusal)));
         }
     };
     let parameters = given.parameters(key_len);
     let used_matrix = lent::used("matrix", &matrix, parameters.matrix_words())?;
     let used_record = lent::used("record", &record, parameters.record_words())?;
-    Ok(Answer::Recorded {
+    Ok(Some(Answer::Recorded {
         key,
         state: recorded.state,
         counts: recorded.counts,
         matrix_sum: checksum::of_words(used_matrix),
         record_sum: checksum::of_words(used_record),
         in_full: in_full.then(|| (used_matrix.to_vec(), used_record.to_vec())),
-    })
+    }))
 }
 
 fn ask_plain(subject: &impl Subject, given: &Given, key_len: u64) -> Result<Answer, String> {
@@ -149,16 +170,24 @@ fn difference(expected: &str, found: &str) -> String {
 }
 
 /// Puts a case's question, compares the answer, and asks the other operations about the same inputs.
-pub fn check_case(subject: &impl Subject, case: &Case) -> Result<(), String> {
-    let found = ask(subject, &case.question)?;
-    compare(&case.answer, &found)?;
-    agree(subject, &case.question, &found)
+pub fn check_case(subject: &impl Subject, case: &Case) -> Result<Coverage, String> {
+    let found = ask_if_offered(subject, &case.question)?;
+    if let Some(found) = &found {
+        compare(&case.answer, found)?;
+    }
+    let shared = agree(subject, &case.question, &case.answer)?;
+    Ok(match found {
+        Some(_) => Coverage::Whole,
+        None if shared => Coverage::SharedPart,
+        None => Coverage::Nothing,
+    })
 }
 
-/// Asks the operations that share a recorded derivation's inputs for what they share of its answer.
-pub fn agree(subject: &impl Subject, question: &Question, answer: &Answer) -> Result<(), String> {
+/// Asks the operations that share a recorded derivation's inputs for what they share of its answer, and
+/// says whether there was anything to ask.
+pub fn agree(subject: &impl Subject, question: &Question, answer: &Answer) -> Result<bool, String> {
     let Question::DeriveRecorded { given, key_len, .. } = question else {
-        return Ok(());
+        return Ok(false);
     };
     match answer {
         Answer::Recorded {
@@ -166,10 +195,13 @@ pub fn agree(subject: &impl Subject, question: &Question, answer: &Answer) -> Re
             counts,
             matrix_sum,
             ..
-        } => agree_on_key(subject, given, key, *counts, *matrix_sum),
-        Answer::Refused(refusal) => agree_on_refusal(subject, given, *key_len, *refusal),
-        _ => Err("a recorded derivation gave another operation's answer".to_string()),
+        } => agree_on_key(subject, given, key, *counts, *matrix_sum)?,
+        // The other operations lend no record, so they have no such refusal.
+        Answer::Refused(Refusal::RecordWords) => return Ok(false),
+        Answer::Refused(refusal) => agree_on_refusal(subject, given, *key_len, *refusal)?,
+        _ => return Err("a recorded derivation gave another operation's answer".to_string()),
     }
+    Ok(true)
 }
 
 fn agree_on_key(
@@ -213,11 +245,9 @@ fn agree_on_refusal(
     refusal: Refusal,
 ) -> Result<(), String> {
     let answer = Answer::Refused(refusal);
-    if refusal < Refusal::RecordWords {
-        expect(subject, &derive_question(given, key_len), &answer)?;
-        let check = check_question(given, Bytes::Zeros(key_len));
-        expect(subject, &check, &answer)?;
-    }
+    expect(subject, &derive_question(given, key_len), &answer)?;
+    let check = check_question(given, Bytes::Zeros(key_len));
+    expect(subject, &check, &answer)?;
     if refusal < Refusal::MatrixWords {
         let cost = Question::Cost(given.parameters(key_len));
         expect(subject, &cost, &answer)?;

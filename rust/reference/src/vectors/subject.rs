@@ -3,15 +3,19 @@
 use crate::{Checked, Counts, Inputs, Parameters, Recorded, Refusal};
 
 /// The operations of an implementation of Lyra2, as document 01 opens them to callers.
+///
+/// A program may lack the recorded derivation or the walk program; it then leaves their default, None.
 pub trait Subject {
     /// The recorded derivation.
     fn derive_recorded(
         &self,
-        inputs: &Inputs,
-        key: &mut [u8],
-        matrix: &mut [u64],
-        record: &mut [u64],
-    ) -> Result<Recorded, Refusal>;
+        _inputs: &Inputs,
+        _key: &mut [u8],
+        _matrix: &mut [u64],
+        _record: &mut [u64],
+    ) -> Option<Result<Recorded, Refusal>> {
+        None
+    }
 
     /// The plain derivation.
     fn derive(
@@ -32,7 +36,9 @@ pub trait Subject {
     fn walk(&self, r: u64, row0: u64) -> Result<u64, Refusal>;
 
     /// The walk program.
-    fn walk_program(&self, input: &[u8]) -> Vec<u8>;
+    fn walk_program(&self, _input: &[u8]) -> Option<Vec<u8>> {
+        None
+    }
 }
 
 /// The implementation of this crate.
@@ -45,8 +51,8 @@ impl Subject for Reference {
         key: &mut [u8],
         matrix: &mut [u64],
         record: &mut [u64],
-    ) -> Result<Recorded, Refusal> {
-        crate::derive_recorded(inputs, key, matrix, record)
+    ) -> Option<Result<Recorded, Refusal>> {
+        Some(crate::derive_recorded(inputs, key, matrix, record))
     }
 
     fn derive(
@@ -75,7 +81,7 @@ impl Subject for Reference {
         crate::walk(r, row0)
     }
 
-    fn walk_program(&self, input: &[u8]) -> Vec<u8> {
-        crate::walk_program(input)
+    fn walk_program(&self, input: &[u8]) -> Option<Vec<u8>> {
+        Some(crate::walk_program(input))
     }
 }

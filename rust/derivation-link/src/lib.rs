@@ -1,0 +1,92 @@
+//! The proved derivation, called through the static library of the crate `derivation_export`.
+//!
+//! [`library`] is the C interface with slices. [`Proved`] gives it the form that the vectors file and the
+//! second program share, and [`compare`] holds it against that program on random inputs.
+
+#![deny(unsafe_code)]
+#![warn(missing_docs)]
+
+pub mod compare;
+pub mod guarded;
+#[allow(unsafe_code)]
+pub mod library;
+
+use library::Costs;
+use lyra2_reference::vectors::Subject;
+use lyra2_reference::{Checked, Counts, Inputs, Parameters, Refusal};
+
+/// What the places for an answer hold before a call; no accepted call gives such a number.
+const BEFORE: u64 = 0xa5a5_a5a5_a5a5_a5a5;
+
+/// The proved library.
+pub struct Proved;
+
+impl Subject for Proved {
+    fn derive(
+        &self,
+        inputs: &Inputs,
+        key: &mut [u8],
+        matrix: &mut [u64],
+    ) -> Result<Counts, Refusal> {
+        let mut costs = [BEFORE; 3];
+        let number = library::derive(inputs, key, matrix, &mut costs);
+        counts(number, costs)
+    }
+
+    fn check(
+        &self,
+        inputs: &Inputs,
+        stored: &[u8],
+        matrix: &mut [u64],
+    ) -> Result<Checked, Refusal> {
+        let mut costs = [BEFORE; 3];
+        let mut same = BEFORE as u32;
+        let number = library::check(inputs, stored, matrix, &mut same, &mut costs);
+        let kept = same == BEFORE as u32;
+        assert_eq!(number != 0, kept, "the check answered {number} and {same}");
+        let counts = counts(number, costs)?;
+        let matches = match same {
+            0 => false,
+            1 => true,
+            other => panic!("the check answered {other}, neither yes nor no"),
+        };
+        Ok(Checked { matches, counts })
+    }
+
+    fn cost(&self, given: &Parameters) -> Result<Counts, Refusal> {
+        let mut costs = [BEFORE; 3];
+        let number = library::cost(given, &mut costs);
+        counts(number, costs)
+    }
+
+    fn walk(&self, r: u64, row0: u64) -> Result<u64, Refusal> {
+        let mut row1 = BEFORE as usize;
+        let number = library::walk(r, row0, &mut row1);
+        if number != 0 {
+            assert_eq!(row1, BEFORE as usize, "a refused question changed row1");
+        }
+        accepted(number).map(|()| row1 as u64)
+    }
+}
+
+/// The answer that a number stands for.
+fn accepted(number: u32) -> Result<(), Refusal> {
+    if number == 0 {
+        return Ok(());
+    }
+    let refusal = Refusal::from_number(u64::from(number));
+    Err(refusal.unwrap_or_else(|| panic!("no refusal has the number {number}")))
+}
+
+/// The counts of an accepted call; a refused one must not have touched them.
+fn counts(number: u32, costs: Costs) -> Result<Counts, Refusal> {
+    if number != 0 {
+        assert_eq!(costs, [BEFORE; 3], "a refused call changed the counts");
+    }
+    let [full, reduced, rounds] = costs;
+    accepted(number).map(|()| Counts {
+        full,
+        reduced,
+        rounds,
+    })
+}

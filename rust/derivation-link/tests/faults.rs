@@ -1,0 +1,113 @@
+//! Faulty programs, made on purpose: the random comparison has to notice every fault.
+
+use derivation_link::compare::compare;
+use derivation_link::Proved;
+use lyra2_reference::vectors::Subject;
+use lyra2_reference::{Checked, Counts, Inputs, Parameters, Refusal};
+
+#[derive(Clone, Copy, Debug, PartialEq, Eq)]
+enum Fault {
+    LastKeyByte,
+    LastMatrixWord,
+    WordPastMatrix,
+    KeyOnRefusal,
+    MatrixOnRefusal,
+    RoundCount,
+    CheckForgetsLastByte,
+    CheckSaysNo,
+    CheckKeepsMatrix,
+    CostOfOneBlock,
+    EverythingRefused,
+    RefusalNumber,
+}
+
+use Fault::*;
+
+/// The proved library with a fault put around it.
+struct Faulty(Fault);
+
+impl Faulty {
+    fn spoil_answer<A>(&self, answer: Result<A, Refusal>) -> Result<A, Refusal> {
+        match answer {
+            Ok(_) if self.0 == EverythingRefused => Err(Refusal::TimeCost),
+            Err(Refusal::Rows) if self.0 == RefusalNumber => Err(Refusal::Columns),
+            other => other,
+        }
+    }
+}
+
+impl Subject for Faulty {
+    fn derive(
+        &self,
+        inputs: &Inputs,
+        key: &mut [u8],
+        matrix: &mut [u64],
+    ) -> Result<Counts, Refusal> {
+        let used = inputs.parameters(key.len()).matrix_words() as usize;
+        let mut answer = Proved.derive(inputs, key, matrix);
+        match (&mut answer, self.0) {
+            (Ok(_), LastKeyByte) => key[key.len() - 1] ^= 1,
+            (Ok(_), LastMatrixWord) => matrix[used - 1] ^= 1,
+            (Ok(_), WordPastMatrix) => matrix[used..].iter_mut().take(1).for_each(|w| *w = 0),
+            (Err(_), KeyOnRefusal) => key.fill(0),
+            (Err(_), MatrixOnRefusal) => matrix.fill(0),
+            (Ok(counts), RoundCount) => counts.rounds += 1,
+            _ => (),
+        }
+        self.spoil_answer(answer)
+    }
+
+    fn check(
+        &self,
+        inputs: &Inputs,
+        stored: &[u8],
+        matrix: &mut [u64],
+    ) -> Result<Checked, Refusal> {
+        let before = matrix.to_vec();
+        let mut key = vec![0; stored.len()];
+        let mut checked = Proved.check(inputs, stored, matrix)?;
+        match self.0 {
+            CheckForgetsLastByte => {
+                Proved.derive(inputs, &mut key, matrix)?;
+                checked.matches = key.split_last().map(|x| x.1) == stored.split_last().map(|x| x.1);
+            }
+            CheckSaysNo => checked.matches = false,
+            CheckKeepsMatrix => matrix.copy_from_slice(&before),
+            _ => (),
+        }
+        Ok(checked)
+    }
+
+    fn cost(&self, given: &Parameters) -> Result<Counts, Refusal> {
+        let mut one_block = *given;
+        if self.0 == CostOfOneBlock {
+            one_block.password_len = given.password_len.min(31);
+        }
+        Proved.cost(&one_block)
+    }
+
+    fn walk(&self, r: u64, row0: u64) -> Result<u64, Refusal> {
+        Proved.walk(r, row0)
+    }
+}
+
+#[test]
+fn every_fault_is_noticed() {
+    for fault in [
+        LastKeyByte,
+        LastMatrixWord,
+        WordPastMatrix,
+        KeyOnRefusal,
+        MatrixOnRefusal,
+        RoundCount,
+        CheckForgetsLastByte,
+        CheckSaysNo,
+        CheckKeepsMatrix,
+        CostOfOneBlock,
+        EverythingRefused,
+        RefusalNumber,
+    ] {
+        let noticed = |seed: u64| compare(&Faulty(fault), seed).is_err();
+        assert!((0..5000).any(noticed), "{fault:?}");
+    }
+}

@@ -1,0 +1,269 @@
+//! Document 01's limits through the static library, each from both sides, and the order of the checks.
+//!
+//! The answers are those of the C interface, numbers and all, so the tests see the places that a refused
+//! call has to leave alone.
+
+use derivation_link::library;
+use lyra2_reference::vectors::{Reference, Subject};
+use lyra2_reference::{Counts, Inputs, Parameters};
+
+const MAX: u64 = usize::MAX as u64;
+/// What the lent places hold before a call.
+const BYTE: u8 = 0xa5;
+const WORD: u64 = 0xa5a5_a5a5_a5a5_a5a5;
+
+/// The sizes of a call; the contents of its buffers do not matter here.
+#[derive(Clone, Copy, Debug)]
+struct Call {
+    key: usize,
+    password: usize,
+    salt: usize,
+    t: u64,
+    r: u64,
+    c: u64,
+    matrix: usize,
+}
+
+/// A call that every operation accepts, with a matrix that fits exactly.
+const ACCEPTED: Call = Call {
+    key: 32,
+    password: 31,
+    salt: 8,
+    t: 1,
+    r: 3,
+    c: 1,
+    matrix: 36,
+};
+
+/// What the derivation, the check and the cost question answer: 0 or the number of a refusal. A refused
+/// call must have changed nothing, and an accepted one must have given what the second program gives.
+fn numbers(call: Call) -> [u32; 3] {
+    let inputs = Inputs {
+        password: &vec![1; call.password],
+        salt: &vec![2; call.salt],
+        t: call.t,
+        r: call.r,
+        c: call.c,
+    };
+    let mut due_key = vec![BYTE; call.key];
+    let mut due_matrix = vec![WORD; call.matrix];
+    let due = Reference.derive(&inputs, &mut due_key, &mut due_matrix);
+    let due_costs = due.map_or([WORD; 3], costs);
+
+    let (mut key, mut matrix) = (vec![BYTE; call.key], vec![WORD; call.matrix]);
+    let mut spent = [WORD; 3];
+    let derived = library::derive(&inputs, &mut key, &mut matrix, &mut spent);
+    assert_eq!((&key, spent), (&due_key, due_costs), "{call:?}");
+    assert!(matrix == due_matrix, "derive, matrix: {call:?}");
+
+    let (mut same, mut spent) = (BYTE.into(), [WORD; 3]);
+    matrix.fill(WORD);
+    let checked = library::check(&inputs, &due_key, &mut matrix, &mut same, &mut spent);
+    let due_same = due.map_or(BYTE.into(), |_| 1);
+    assert_eq!((same, spent), (due_same, due_costs), "{call:?}");
+    assert!(matrix == due_matrix, "check, matrix: {call:?}");
+
+    [derived, checked, cost(&inputs.parameters(call.key))]
+}
+
+fn costs(counts: Counts) -> [u64; 3] {
+    [counts.full, counts.reduced, counts.rounds]
+}
+
+/// What the cost question answers, once its counts are compared.
+fn cost(given: &Parameters) -> u32 {
+    let due = Reference.cost(given).map_or([WORD; 3], costs);
+    let mut spent = [WORD; 3];
+    let number = library::cost(given, &mut spent);
+    assert_eq!(spent, due, "{given:?}");
+    number
+}
+
+/// The numbers for a call that differs from the accepted one.
+fn changed(change: impl Fn(&mut Call)) -> [u32; 3] {
+    let mut call = ACCEPTED;
+    change(&mut call);
+    numbers(call)
+}
+
+#[test]
+fn the_smallest_matrix_has_36_words() {
+    assert_eq!(numbers(ACCEPTED), [0; 3]);
+    for matrix in [0, 1, 12, 35] {
+        assert_eq!(changed(|call| call.matrix = matrix), [7, 7, 0]);
+    }
+    for matrix in [37, 48, 1000] {
+        assert_eq!(changed(|call| call.matrix = matrix), [0; 3]);
+    }
+}
+
+#[test]
+fn key_lengths() {
+    for key in [1, 2, 95, 96, 97, 1023, 1024] {
+        assert_eq!(changed(|call| call.key = key), [0; 3]);
+    }
+    for key in [0, 1025, 1 << 16 | 32] {
+        assert_eq!(changed(|call| call.key = key), [1; 3]);
+    }
+}
+
+#[test]
+fn password_lengths() {
+    for password in [0, 1, 1023, 1024] {
+        assert_eq!(changed(|call| call.password = password), [0; 3]);
+    }
+    for password in [1025, 1 << 16 | 31] {
+        assert_eq!(changed(|call| call.password = password), [2; 3]);
+    }
+}
+
+#[test]
+fn salt_lengths() {
+    for salt in [8, 9, 63, 64] {
+        assert_eq!(changed(|call| call.salt = salt), [0; 3]);
+    }
+    for salt in [0, 7, 65, 1 << 8 | 8, 1 << 16 | 8] {
+        assert_eq!(changed(|call| call.salt = salt), [3; 3]);
+    }
+}
+
+// The refused numbers below include some whose low 8, 16 or 32 bits would be accepted.
+
+#[test]
+fn time_costs() {
+    for t in [1, 2, 254, 255] {
+        assert_eq!(changed(|call| call.t = t), [0; 3]);
+    }
+    for t in [0, 256, 1 << 16 | 1, 1 << 32 | 1, MAX - 1, MAX] {
+        assert_eq!(changed(|call| call.t = t), [4; 3]);
+    }
+}
+
+#[test]
+fn numbers_of_rows() {
+    for r in [3, 4, 16_383, 16_384] {
+        let fitting = |call: &mut Call| (call.r, call.matrix) = (r, 12 * r as usize);
+        assert_eq!(changed(fitting), [0; 3]);
+        let short = |call: &mut Call| (call.r, call.matrix) = (r, 12 * r as usize - 1);
+        assert_eq!(changed(short), [7, 7, 0]);
+    }
+    for r in [0, 1, 2, 16_385, 1 << 16 | 3, 1 << 32 | 3, MAX - 1, MAX] {
+        assert_eq!(changed(|call| call.r = r), [5; 3]);
+    }
+}
+
+#[test]
+fn numbers_of_columns() {
+    for c in [1, 2, 255, 256] {
+        let fitting = |call: &mut Call| (call.c, call.matrix) = (c, 36 * c as usize);
+        assert_eq!(changed(fitting), [0; 3]);
+        let short = |call: &mut Call| (call.c, call.matrix) = (c, 36 * c as usize - 1);
+        assert_eq!(changed(short), [7, 7, 0]);
+    }
+    for c in [0, 257, 1 << 16 | 1, 1 << 32 | 1, MAX - 1, MAX] {
+        assert_eq!(changed(|call| call.c = c), [6; 3]);
+    }
+}
+
+/// Makes the condition with this number hold, in one of two ways.
+fn make_hold(call: &mut Call, number: u32, high: bool) {
+    let pick = |low: u64, above: u64| if high { above } else { low };
+    match number {
+        1 => call.key = pick(0, 1025) as usize,
+        2 => call.password = 1025,
+        3 => call.salt = pick(7, 65) as usize,
+        4 => call.t = pick(0, MAX),
+        5 => call.r = pick(2, MAX),
+        6 => call.c = pick(0, MAX),
+        _ => call.matrix = pick(0, 35) as usize,
+    }
+}
+
+#[test]
+fn of_several_refusals_the_lowest_number_is_returned() {
+    for set in 1u32..128 {
+        for high in [false, true] {
+            let held = (1..=7).filter(|number| set & (1 << (number - 1)) != 0);
+            let first = held.clone().min().expect("the set is not empty");
+            let found = changed(|call| held.clone().for_each(|n| make_hold(call, n, high)));
+            let costed = if first == 7 { 0 } else { first };
+            assert_eq!(found, [first, first, costed], "{set:b} {high}");
+        }
+    }
+}
+
+/// The cost question takes lengths that no buffer has.
+#[test]
+fn cost_of_the_largest_numbers() {
+    let accepted = Parameters {
+        key_len: 1024,
+        password_len: 1024,
+        salt_len: 64,
+        t: 255,
+        r: 16_384,
+        c: 256,
+    };
+    assert_eq!(cost(&accepted), 0);
+    let places: [fn(&mut Parameters) -> &mut u64; 6] = [
+        |given| &mut given.key_len,
+        |given| &mut given.password_len,
+        |given| &mut given.salt_len,
+        |given| &mut given.t,
+        |given| &mut given.r,
+        |given| &mut given.c,
+    ];
+    for (number, place) in (1..).zip(places) {
+        for value in [MAX, MAX - 1, 1 << 63, 1 << 32 | 8] {
+            let mut given = accepted;
+            *place(&mut given) = value;
+            assert_eq!(cost(&given), number);
+            // The places after it may hold anything.
+            for later in &places[number as usize..] {
+                *later(&mut given) = MAX;
+            }
+            assert_eq!(cost(&given), number);
+        }
+    }
+}
+
+/// What the walk question answers, once its row is compared.
+fn walk(r: u64, row0: u64) -> u32 {
+    let due = Reference.walk(r, row0).unwrap_or(WORD);
+    let mut row1 = WORD as usize;
+    let number = library::walk(r, row0, &mut row1);
+    assert_eq!(row1 as u64, due, "R {r}, row0 {row0}");
+    number
+}
+
+#[test]
+fn walk_questions() {
+    for r in [0, 1, 2, 16_385, 1 << 16 | 8, 1 << 32 | 8, MAX] {
+        for row0 in [0, 2, 3, 7, MAX] {
+            assert_eq!(walk(r, row0), 5, "R {r}, row0 {row0}");
+        }
+    }
+    for r in [3, 4, 5, 8, 16_383, 16_384] {
+        for row0 in [0, 1, 2, r, r + 1, 1 << 16 | 3, 1 << 32 | 3, MAX] {
+            assert_eq!(walk(r, row0), 9, "R {r}, row0 {row0}");
+        }
+        for row0 in [3, r - 1] {
+            // With three rows there is no Setup step, and row 3 is not a row.
+            let due = if (3..r).contains(&row0) { 0 } else { 9 };
+            assert_eq!(walk(r, row0), due, "R {r}, row0 {row0}");
+        }
+    }
+}
+
+/// The walk program of the second program lists every step; the question is asked for each.
+#[test]
+fn every_setup_step_of_the_most_rows() {
+    let output = lyra2_reference::walk_program(b"16384\n");
+    let lines = String::from_utf8(output).expect("the program prints text");
+    assert_eq!(lines.lines().count(), 16_384 - 3);
+    for line in lines.lines() {
+        let (row0, due) = line.split_once(' ').expect("two numbers");
+        let mut row1 = WORD as usize;
+        let number = library::walk(16_384, row0.parse().expect("a number"), &mut row1);
+        assert_eq!((number, row1.to_string().as_str()), (0, due), "row0 {row0}");
+    }
+}

@@ -1,0 +1,57 @@
+//! Random inputs: the proved library against the second program, in lent buffers between guards.
+
+use derivation_link::compare::compare;
+use derivation_link::Proved;
+use lyra2_reference::vectors::random::{question, Random};
+use lyra2_reference::vectors::{run, Reference};
+use std::collections::BTreeSet;
+
+const FIRST_SEED: u64 = 0x4c79_7261_3200;
+const COMPARISONS: u64 = 20_000;
+const QUESTIONS: u64 = 3_000;
+
+/// Lengths of key, password and salt of the accepted calls, and the refusals of the others.
+#[derive(Default)]
+struct Met {
+    keys: BTreeSet<u64>,
+    passwords: BTreeSet<u64>,
+    salts: BTreeSet<u64>,
+    refusals: BTreeSet<u8>,
+}
+
+#[test]
+fn every_length_and_every_refusal_is_met_and_the_two_programs_agree() {
+    let mut met = Met::default();
+    for seed in FIRST_SEED..FIRST_SEED + COMPARISONS {
+        let compared = compare(&Proved, seed)
+            .unwrap_or_else(|what| panic!("{what}; `compare-random {seed} 1` repeats it"));
+        if let Err(refusal) = compared.answer {
+            met.refusals.insert(refusal.number());
+            continue;
+        }
+        met.keys.insert(compared.sizes.key_len);
+        met.passwords.insert(compared.sizes.password_len);
+        met.salts.insert(compared.sizes.salt_len);
+    }
+    assert_eq!(met.keys, (1..=1024).collect());
+    assert_eq!(met.passwords, (0..=1024).collect());
+    assert_eq!(met.salts, (8..=64).collect());
+    assert_eq!(met.refusals, (1..=7).collect());
+}
+
+/// The second program's own questions, with larger matrices than the comparisons have.
+#[test]
+fn questions_of_the_second_program() {
+    let mut random = Random::new(FIRST_SEED);
+    let mut shared = 0;
+    for place in 1..=QUESTIONS {
+        let question = question(&mut random);
+        let answer = run::ask(&Reference, &question).expect("the second program keeps its buffers");
+        match run::agree(&Proved, &question, &answer) {
+            Ok(asked) => shared += u64::from(asked),
+            Err(what) => panic!("seed {FIRST_SEED}, question {place}: {what}"),
+        }
+    }
+    // The rest are refused for their record, which the library is not lent.
+    assert!(shared > QUESTIONS * 9 / 10, "{shared} questions");
+}
