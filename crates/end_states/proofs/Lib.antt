@@ -2,3 +2,4 @@
 pub mod Walks
 pub mod EndStates
 pub mod Demand3
+pub mod Witness
