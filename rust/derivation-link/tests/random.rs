@@ -36,7 +36,7 @@ fn every_length_and_every_refusal_is_met_and_the_two_programs_agree() {
     assert_eq!(met.keys, (1..=1024).collect());
     assert_eq!(met.passwords, (0..=1024).collect());
     assert_eq!(met.salts, (8..=64).collect());
-    assert_eq!(met.refusals, (1..=7).collect());
+    assert_eq!(met.refusals, (1..=8).collect());
 }
 
 /// The second program's own questions, recorded derivations of larger matrices than the comparisons have.
