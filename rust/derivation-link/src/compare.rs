@@ -33,7 +33,7 @@ struct Lent {
 }
 
 /// What the plain and the recorded derivation leave. The key and the used matrix are the plain one's, and
-/// the recorded one is held to the same; the parts of a refused call are empty.
+/// the recorded one is held to the same; the used parts of a refused call are empty.
 struct End {
     plain: Result<Counts, Refusal>,
     recorded: Result<Recorded, Refusal>,
