@@ -44,6 +44,17 @@ impl Input {
         }
     }
 
+    /// As before, but the bytes of the three lengths, 0, 4 and 8 of the six numbers, stand in one block.
+    fn with_lengths_together(random: &mut Random, shape: [u64; 3]) -> Input {
+        loop {
+            let input = Input::random(random, shape);
+            let first = (input.password.len() + input.salt.len()) % BLOCK_BYTES;
+            if first + 8 < BLOCK_BYTES {
+                return input;
+            }
+        }
+    }
+
     fn inputs(&self) -> Inputs<'_> {
         Inputs {
             password: &self.password,
@@ -72,7 +83,7 @@ fn shapes() -> impl Iterator<Item = [u64; 3]> {
 }
 
 /// What demand 3 compares.
-#[derive(Clone, Debug, PartialEq, Eq)]
+#[derive(Clone)]
 struct EndState {
     state: State,
     used_matrix: Vec<u64>,
@@ -130,6 +141,9 @@ fn end_state(input: &Input, lent: &mut Buffers) -> EndState {
     }
 }
 
+/// The words of one part.
+type Part = fn(&mut EndState) -> &mut [u64];
+
 /// The parts in which two end states differ.
 fn differing_parts(x: &EndState, y: &EndState) -> Vec<&'static str> {
     let parts = [
@@ -152,16 +166,19 @@ fn differing_blocks(x: &Input, y: &Input) -> Vec<usize> {
 
 /// Compares the end states of random inputs with those of changed ones, one block apart, and prints how
 /// many pairs differ in which parts.
-fn tell_apart(seed: u64, change: fn(&mut Input, &mut Random)) {
+fn tell_apart(
+    seed: u64,
+    draw: fn(&mut Random, [u64; 3]) -> Input,
+    change: fn(&mut Input, &mut Random),
+) {
     let mut random = Random::new(seed);
     let mut told_by = BTreeMap::new();
     for shape in shapes().flat_map(|shape| [shape; PAIRS]) {
-        let (one, other) = pair(shape, &mut random, change);
-        assert_eq!(
-            differing_blocks(&one, &other).len(),
-            1,
-            "{one:?}, {other:?}"
-        );
+        let one = draw(&mut random, shape);
+        let mut other = one.clone();
+        change(&mut other, &mut random);
+        let blocks = differing_blocks(&one, &other);
+        assert_eq!(blocks.len(), 1, "{one:?} and {other:?}: {blocks:?}");
         let [x, y] = [&one, &other].map(|input| {
             let mut lent = Buffers::random(&mut random, input);
             end_state(input, &mut lent)
@@ -173,21 +190,6 @@ fn tell_apart(seed: u64, change: fn(&mut Input, &mut Random)) {
     println!("pairs, by the parts in which they differ: {told_by:?}");
 }
 
-fn pair(
-    shape: [u64; 3],
-    random: &mut Random,
-    change: fn(&mut Input, &mut Random),
-) -> (Input, Input) {
-    let mut one = Input::random(random, shape);
-    // The three lengths take bytes 0, 4 and 8 of the six numbers; all are to stand in one block.
-    while (one.password.len() + one.salt.len()) % BLOCK_BYTES >= BLOCK_BYTES - 9 {
-        one = Input::random(random, shape);
-    }
-    let mut other = one.clone();
-    change(&mut other, random);
-    (one, other)
-}
-
 fn flip_one_bit(bytes: &mut [u8], random: &mut Random) {
     let place = random.between(0, bytes.len() as u64 - 1);
     bytes[place as usize] ^= 1 << random.between(0, 7);
@@ -195,18 +197,22 @@ fn flip_one_bit(bytes: &mut [u8], random: &mut Random) {
 
 #[test]
 fn one_bit_of_the_password() {
-    tell_apart(1, |input, random| flip_one_bit(&mut input.password, random));
+    tell_apart(1, Input::random, |input, random| {
+        flip_one_bit(&mut input.password, random)
+    });
 }
 
 #[test]
 fn one_bit_of_the_salt() {
-    tell_apart(2, |input, random| flip_one_bit(&mut input.salt, random));
+    tell_apart(2, Input::random, |input, random| {
+        flip_one_bit(&mut input.salt, random)
+    });
 }
 
 /// The key length takes no part in the walk, and is told from the input block alone.
 #[test]
 fn the_key_length() {
-    tell_apart(3, |input, random| match random.once_in(2) {
+    tell_apart(3, Input::random, |input, random| match random.once_in(2) {
         true => input.key_len = input.key_len % 255 + 1,
         false => input.key_len += 256,
     });
@@ -215,7 +221,7 @@ fn the_key_length() {
 /// Password and salt one after the other are the same bytes, so the two lengths alone differ.
 #[test]
 fn a_byte_moved_from_the_password_to_the_salt() {
-    tell_apart(4, |input, _| {
+    tell_apart(4, Input::with_lengths_together, |input, _| {
         let moved = input.password.pop().expect("the password has a byte");
         input.salt.insert(0, moved);
     });
@@ -255,28 +261,34 @@ fn two_blocks() -> Input {
     }
 }
 
-/// Two accepted inputs, named in full: they differ in the first of two blocks, by one bit of the password.
-#[test]
-fn two_inputs_whose_first_blocks_differ() {
-    let one = two_blocks();
-    let mut other = two_blocks();
-    other.password[44] = b'n';
-    let [x, y] = [&one, &other].map(|input| end_state(input, &mut Buffers::filled(input, 0, 0)));
-    assert_eq!([&one, &other].map(|input| input.padded().len()), [128; 2]);
-    assert_eq!(differing_blocks(&one, &other), [0]);
+/// An input that differs from the one above in this block alone is accepted too, and ends otherwise.
+fn assert_told_by_block(other: &Input, block: usize) {
+    let inputs = [&two_blocks(), other];
+    let [x, y] = inputs.map(|input| end_state(input, &mut Buffers::filled(input, 0, 0)));
+    assert_eq!(inputs.map(|input| input.padded().len()), [128; 2]);
+    assert_eq!(differing_blocks(inputs[0], inputs[1]), [block]);
     assert_eq!(differing_parts(&x, &y), ["state", "matrix", "record"]);
 }
 
-/// As before, but the key lengths alone differ, in the second block.
+/// The last letters of the passwords, o and n, are one bit apart.
+#[test]
+fn two_inputs_whose_first_blocks_differ() {
+    let password = b"correct horse battery staple and a donkey ton".to_vec();
+    let other = Input {
+        password,
+        ..two_blocks()
+    };
+    assert_told_by_block(&other, 0);
+}
+
+/// The key lengths, 32 and 33, are one bit apart.
 #[test]
 fn two_inputs_whose_second_blocks_differ() {
-    let one = two_blocks();
-    let mut other = two_blocks();
-    other.key_len = 33;
-    let [x, y] = [&one, &other].map(|input| end_state(input, &mut Buffers::filled(input, 0, 0)));
-    assert_eq!([&one, &other].map(|input| input.padded().len()), [128; 2]);
-    assert_eq!(differing_blocks(&one, &other), [1]);
-    assert_eq!(differing_parts(&x, &y), ["state", "matrix", "record"]);
+    let other = Input {
+        key_len: 33,
+        ..two_blocks()
+    };
+    assert_told_by_block(&other, 1);
 }
 
 /// The comparison above sees one changed bit in the last word of each part.
@@ -284,12 +296,12 @@ fn two_inputs_whose_second_blocks_differ() {
 fn every_part_is_compared() {
     let input = two_blocks();
     let end = end_state(&input, &mut Buffers::filled(&input, 0, 0));
-    let changes: [(&str, fn(&mut EndState) -> &mut [u64]); 3] = [
+    let parts: [(&str, Part); 3] = [
         ("state", |end| &mut end.state),
         ("matrix", |end| &mut end.used_matrix),
         ("record", |end| &mut end.used_record),
     ];
-    for (name, part) in changes {
+    for (name, part) in parts {
         let mut changed = end.clone();
         let last = part(&mut changed).last_mut().expect("no part is empty");
         *last ^= 1;
