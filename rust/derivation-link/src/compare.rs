@@ -5,18 +5,16 @@
 use crate::guarded::{byte, word, Guarded};
 use lyra2_reference::vectors::random::Random;
 use lyra2_reference::vectors::{Reference, Subject};
-use lyra2_reference::{Checked, Counts, Inputs, Parameters, Refusal};
-
-/// The answer of a derivation.
-type Answer = Result<Counts, Refusal>;
+use lyra2_reference::{Checked, Counts, Inputs, Parameters, Recorded, Refusal};
+use std::fmt::{Debug, LowerHex};
 
 /// What a comparison was about.
 #[derive(Debug)]
 pub struct Compared {
     /// The six numbers of the input.
     pub sizes: Parameters,
-    /// What both programs answered.
-    pub answer: Answer,
+    /// What both programs answered to the recorded derivation, which alone has all the checks.
+    pub answer: Result<Recorded, Refusal>,
 }
 
 /// The sizes of a call.
@@ -24,6 +22,7 @@ pub struct Compared {
 struct Sizes {
     given: Parameters,
     matrix_words: u64,
+    record_words: u64,
 }
 
 /// What a derivation reads, between guards.
@@ -33,14 +32,17 @@ struct Lent {
     sizes: Sizes,
 }
 
-/// What a derivation leaves: its answer, the key and the used matrix.
+/// What the plain and the recorded derivation leave. The key and the used matrix are the plain one's, and
+/// the recorded one is held to the same; the used parts of a refused call are empty.
 struct End {
-    answer: Answer,
+    plain: Result<Counts, Refusal>,
+    recorded: Result<Recorded, Refusal>,
     key: Vec<u8>,
     used_matrix: Vec<u64>,
+    used_record: Vec<u64>,
 }
 
-/// Makes the comparison of a seed: the derivation, the cost question, and three checks.
+/// Makes the comparison of a seed: both derivations, the cost question, and three checks.
 pub fn compare(subject: &impl Subject, seed: u64) -> Result<Compared, String> {
     let mut random = Random::new(seed);
     let sizes = draw_sizes(&mut random);
@@ -51,7 +53,8 @@ pub fn compare(subject: &impl Subject, seed: u64) -> Result<Compared, String> {
     };
     let at_sizes = |what: String| format!("{sizes:?}: {what}");
     let end = reference_end(&lent);
-    compare_derivation(subject, &lent, &end, &mut random).map_err(at_sizes)?;
+    compare_plain(subject, &lent, &end, &mut random).map_err(at_sizes)?;
+    compare_recorded(subject, &lent, &end, &mut random).map_err(at_sizes)?;
     compare_cost(subject, &lent, &end).map_err(at_sizes)?;
     for (stored, matches) in stored_keys(&end.key, &mut random) {
         compare_check(subject, &lent, &end, &stored, matches, &mut random).map_err(at_sizes)?;
@@ -60,13 +63,13 @@ pub fn compare(subject: &impl Subject, seed: u64) -> Result<Compared, String> {
     lent.salt.used("salt", 0).map_err(at_sizes)?;
     Ok(Compared {
         sizes: sizes.given,
-        answer: end.answer,
+        answer: end.recorded,
     })
 }
 
 /// Lengths from everywhere between their limits; T, R and C mostly small, so that a run gets far.
 fn draw_sizes(random: &mut Random) -> Sizes {
-    let mut given = Parameters {
+    let given = Parameters {
         key_len: random.between(1, 1024),
         password_len: random.between(0, 1024),
         salt_len: random.between(8, 64),
@@ -74,16 +77,17 @@ fn draw_sizes(random: &mut Random) -> Sizes {
         r: mostly_small(random, 3, [12, 70, 600]),
         c: mostly_small(random, 1, [4, 20, 256]),
     };
-    let mut matrix_words = given.matrix_words() + random.between(0, 40);
+    let mut sizes = Sizes {
+        given,
+        matrix_words: given.matrix_words() + random.between(0, 40),
+        record_words: given.record_words() + random.between(0, 40),
+    };
     if random.once_in(16) {
         for _ in 0..random.between(1, 3) {
-            spoil(random, &mut given, &mut matrix_words);
+            spoil(random, &mut sizes);
         }
     }
-    Sizes {
-        given,
-        matrix_words,
-    }
+    sizes
 }
 
 /// A number up to the first of three limits; seldom up to the second, and hardly ever up to the third.
@@ -96,19 +100,25 @@ fn mostly_small(random: &mut Random, low: u64, [usual, seldom, hardly]: [u64; 3]
     random.between(low, high)
 }
 
-/// Puts one size outside its limits, or makes the matrix shorter, which may leave it long enough.
-fn spoil(random: &mut Random, given: &mut Parameters, matrix_words: &mut u64) {
+/// Puts one size outside its limits, or makes a buffer shorter, which may leave it long enough.
+fn spoil(random: &mut Random, sizes: &mut Sizes) {
     let low = random.once_in(2);
     let pick = |below: u64, above: u64| if low { below } else { above };
-    match random.between(1, 7) {
+    let given = &mut sizes.given;
+    match random.between(1, 8) {
         1 => given.key_len = pick(0, random.between(1025, 2000)),
         2 => given.password_len = random.between(1025, 2000),
         3 => given.salt_len = pick(random.between(0, 7), random.between(65, 200)),
         4 => given.t = pick(0, random.between(256, u64::MAX)),
         5 => given.r = pick(random.between(0, 2), random.between(16_385, u64::MAX)),
         6 => given.c = pick(0, random.between(257, u64::MAX)),
-        _ => *matrix_words = matrix_words.saturating_sub(random.between(1, 80)),
+        7 => shorten(random, &mut sizes.matrix_words),
+        _ => shorten(random, &mut sizes.record_words),
     }
+}
+
+fn shorten(random: &mut Random, words: &mut u64) {
+    *words = words.saturating_sub(random.between(1, 80));
 }
 
 fn inputs(lent: &Lent) -> Inputs<'_> {
@@ -122,19 +132,31 @@ fn inputs(lent: &Lent) -> Inputs<'_> {
 }
 
 fn reference_end(lent: &Lent) -> End {
-    let mut key = vec![0; lent.sizes.given.key_len as usize];
-    let mut matrix = vec![0; lent.sizes.matrix_words as usize];
-    let answer = Reference.derive(&inputs(lent), &mut key, &mut matrix);
-    let used = answer.map_or(0, |_| lent.sizes.given.matrix_words());
-    matrix.truncate(used as usize);
+    let given = lent.sizes.given;
+    let zeros = |words: u64| vec![0; words as usize];
+    let mut key = vec![0; given.key_len as usize];
+    let mut used_matrix = zeros(lent.sizes.matrix_words);
+    let plain = Reference.derive(&inputs(lent), &mut key, &mut used_matrix);
+    used_matrix.truncate(plain.map_or(0, |_| given.matrix_words() as usize));
+
+    let mut used_record = zeros(lent.sizes.record_words);
+    let recorded = lyra2_reference::derive_recorded(
+        &inputs(lent),
+        &mut key.clone(),
+        &mut zeros(lent.sizes.matrix_words),
+        &mut used_record,
+    );
+    used_record.truncate(recorded.map_or(0, |_| given.record_words() as usize));
     End {
-        answer,
+        plain,
+        recorded,
         key,
-        used_matrix: matrix,
+        used_matrix,
+        used_record,
     }
 }
 
-fn compare_derivation(
+fn compare_plain(
     subject: &impl Subject,
     lent: &Lent,
     end: &End,
@@ -143,24 +165,60 @@ fn compare_derivation(
     let mut key = Guarded::random(random, end.key.len(), byte);
     let mut matrix = Guarded::random(random, lent.sizes.matrix_words as usize, word);
     let answer = subject.derive(&inputs(lent), key.lent_mut(), matrix.lent_mut());
-    same("derive: answer", &end.answer, &answer)?;
-    let used_key = end.answer.map_or(0, |_| end.key.len());
-    let found = key.used("derive: key", used_key)?;
-    same_places("derive: key", &end.key[..used_key], found)?;
-    compare_matrix("derive: matrix", end, &matrix)
+    same("derive: answer", &end.plain, &answer)?;
+    let due_key = if end.plain.is_ok() { &end.key } else { &[][..] };
+    compare_used("derive: key", due_key, &key)?;
+    compare_used("derive: matrix", &end.used_matrix, &matrix)
 }
 
-fn compare_matrix(name: &str, end: &End, matrix: &Guarded<u64>) -> Result<(), String> {
-    let found = matrix.used(name, end.used_matrix.len())?;
-    same_places(name, &end.used_matrix, found)
+fn compare_recorded(
+    subject: &impl Subject,
+    lent: &Lent,
+    end: &End,
+    random: &mut Random,
+) -> Result<(), String> {
+    let mut key = Guarded::random(random, end.key.len(), byte);
+    let mut matrix = Guarded::random(random, lent.sizes.matrix_words as usize, word);
+    let mut record = Guarded::random(random, lent.sizes.record_words as usize, word);
+    let answer = subject
+        .derive_recorded(
+            &inputs(lent),
+            key.lent_mut(),
+            matrix.lent_mut(),
+            record.lent_mut(),
+        )
+        .ok_or("the program has no recorded derivation")?;
+    same("derive_recorded: answer", &end.recorded, &answer)?;
+    let (due_key, due_matrix) = match end.recorded {
+        Ok(_) => (&end.key[..], &end.used_matrix[..]),
+        Err(_) => (&[][..], &[][..]),
+    };
+    compare_used("derive_recorded: key", due_key, &key)?;
+    compare_used("derive_recorded: matrix", due_matrix, &matrix)?;
+    compare_used("derive_recorded: record", &end.used_record, &record)
+}
+
+/// The first places of a lent buffer must hold what is due, and all others what they held.
+fn compare_used<T>(name: &str, due: &[T], lent: &Guarded<T>) -> Result<(), String>
+where
+    T: Copy + PartialEq + LowerHex,
+{
+    let found = lent.used(name, due.len())?;
+    let differing = (0..).zip(due.iter().zip(found)).find(|(_, (x, y))| x != y);
+    match differing {
+        Some((place, (x, y))) => Err(format!(
+            "{name}: place {place}: {x:x} is due, {y:x} was found"
+        )),
+        None => Ok(()),
+    }
 }
 
 fn compare_cost(subject: &impl Subject, lent: &Lent, end: &End) -> Result<(), String> {
     // The cost question lends no matrix, so it has no such refusal.
-    if end.answer == Err(Refusal::MatrixWords) {
+    if end.plain == Err(Refusal::MatrixWords) {
         return Ok(());
     }
-    same("cost", &end.answer, &subject.cost(&lent.sizes.given))
+    same("cost", &end.plain, &subject.cost(&lent.sizes.given))
 }
 
 /// The key; the key with one bit flipped; the key with another last byte. Each with the check's answer.
@@ -187,29 +245,15 @@ fn compare_check(
     let stored = Guarded::holding(random, stored, byte);
     let mut matrix = Guarded::random(random, lent.sizes.matrix_words as usize, word);
     let answer = subject.check(&inputs(lent), stored.lent(), matrix.lent_mut());
-    let due = end.answer.map(|counts| Checked { matches, counts });
+    let due = end.plain.map(|counts| Checked { matches, counts });
     same("check: answer", &due, &answer)?;
     stored.used("check: stored key", 0)?;
-    compare_matrix("check: matrix", end, &matrix)
+    compare_used("check: matrix", &end.used_matrix, &matrix)
 }
 
-fn same<A: PartialEq + std::fmt::Debug>(name: &str, due: &A, found: &A) -> Result<(), String> {
+fn same<A: PartialEq + Debug>(name: &str, due: &A, found: &A) -> Result<(), String> {
     if due == found {
         return Ok(());
     }
     Err(format!("{name}: {due:?} is due, {found:?} was found"))
-}
-
-fn same_places<T: PartialEq + std::fmt::LowerHex>(
-    name: &str,
-    due: &[T],
-    found: &[T],
-) -> Result<(), String> {
-    let differing = (0..).zip(due.iter().zip(found)).find(|(_, (x, y))| x != y);
-    match differing {
-        Some((place, (x, y))) => Err(format!(
-            "{name}: place {place}: {x:x} is due, {y:x} was found"
-        )),
-        None => same(name, &due.len(), &found.len()),
-    }
 }

@@ -13,7 +13,7 @@ pub mod library;
 
 use library::Costs;
 use lyra2_reference::vectors::Subject;
-use lyra2_reference::{Checked, Counts, Inputs, Parameters, Refusal};
+use lyra2_reference::{Checked, Counts, Inputs, Parameters, Recorded, Refusal};
 
 /// What the places for an answer hold before a call; no accepted call gives such a number.
 const BEFORE: u64 = 0xa5a5_a5a5_a5a5_a5a5;
@@ -22,6 +22,21 @@ const BEFORE: u64 = 0xa5a5_a5a5_a5a5_a5a5;
 pub struct Proved;
 
 impl Subject for Proved {
+    fn derive_recorded(
+        &self,
+        inputs: &Inputs,
+        key: &mut [u8],
+        matrix: &mut [u64],
+        record: &mut [u64],
+    ) -> Option<Result<Recorded, Refusal>> {
+        let (mut state, mut costs) = ([BEFORE; 16], [BEFORE; 3]);
+        let number = library::derive_recorded(inputs, key, matrix, record, &mut state, &mut costs);
+        if number != 0 {
+            assert_eq!(state, [BEFORE; 16], "a refused call changed the state");
+        }
+        Some(counts(number, costs).map(|counts| Recorded { state, counts }))
+    }
+
     fn derive(
         &self,
         inputs: &Inputs,

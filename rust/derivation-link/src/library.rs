@@ -3,6 +3,7 @@
 //! Each function returns 0 or the number of a refusal, and leaves the places for the answer to the caller,
 //! so that a test can see what a refused call does to them. A slice passes as a pointer and a length.
 
+use lyra2_reference::sponge::State;
 use lyra2_reference::{Inputs, Parameters};
 
 /// The three numbers that a call spends: full calls, reduced calls, rounds.
@@ -22,6 +23,24 @@ mod foreign {
             key_len: usize,
             matrix: *mut u64,
             matrix_len: usize,
+            counts: *mut u64,
+        ) -> u32;
+
+        pub fn lyra2_derive_recorded(
+            password: *const u8,
+            password_len: usize,
+            salt: *const u8,
+            salt_len: usize,
+            time: usize,
+            rows: usize,
+            columns: usize,
+            key: *mut u8,
+            key_len: usize,
+            matrix: *mut u64,
+            matrix_len: usize,
+            record: *mut u64,
+            record_len: usize,
+            state: *mut u64,
             counts: *mut u64,
         ) -> u32;
 
@@ -77,6 +96,37 @@ pub fn derive(inputs: &Inputs, key: &mut [u8], matrix: &mut [u64], costs: &mut C
             key.len(),
             matrix.as_mut_ptr(),
             matrix.len(),
+            costs.as_mut_ptr(),
+        )
+    }
+}
+
+/// The recorded derivation: `state` becomes the state after the last visit.
+pub fn derive_recorded(
+    inputs: &Inputs,
+    key: &mut [u8],
+    matrix: &mut [u64],
+    record: &mut [u64],
+    state: &mut State,
+    costs: &mut Costs,
+) -> u32 {
+    // SAFETY: as in the plain derivation; the state has the sixteen words that the call writes.
+    unsafe {
+        foreign::lyra2_derive_recorded(
+            inputs.password.as_ptr(),
+            inputs.password.len(),
+            inputs.salt.as_ptr(),
+            inputs.salt.len(),
+            size(inputs.t),
+            size(inputs.r),
+            size(inputs.c),
+            key.as_mut_ptr(),
+            key.len(),
+            matrix.as_mut_ptr(),
+            matrix.len(),
+            record.as_mut_ptr(),
+            record.len(),
+            state.as_mut_ptr(),
             costs.as_mut_ptr(),
         )
     }

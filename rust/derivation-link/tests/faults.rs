@@ -3,7 +3,7 @@
 use derivation_link::compare::compare;
 use derivation_link::Proved;
 use lyra2_reference::vectors::Subject;
-use lyra2_reference::{Checked, Counts, Inputs, Parameters, Refusal};
+use lyra2_reference::{Checked, Counts, Inputs, Parameters, Recorded, Refusal};
 
 #[derive(Clone, Copy, Debug, PartialEq, Eq)]
 enum Fault {
@@ -19,6 +19,18 @@ enum Fault {
     CostOfOneBlock,
     EverythingRefused,
     RefusalNumber,
+    RecordedLastKeyByte,
+    RecordedFirstMatrixWord,
+    RecordedRoundCount,
+    RecordedMissing,
+    LastStateWord,
+    LastRecordWord,
+    RowsExchanged,
+    WordPastRecord,
+    RecordOnRefusal,
+    MatrixOnShortRecord,
+    KeyOnShortRecord,
+    ShortRecordRefusedWith7,
 }
 
 use Fault::*;
@@ -37,6 +49,35 @@ impl Faulty {
 }
 
 impl Subject for Faulty {
+    fn derive_recorded(
+        &self,
+        inputs: &Inputs,
+        key: &mut [u8],
+        matrix: &mut [u64],
+        record: &mut [u64],
+    ) -> Option<Result<Recorded, Refusal>> {
+        let used = inputs.parameters(key.len()).record_words() as usize;
+        let mut answer = Proved.derive_recorded(inputs, key, matrix, record)?;
+        match (&mut answer, self.0) {
+            (Ok(_), RecordedLastKeyByte) => key[key.len() - 1] ^= 1,
+            (Ok(_), RecordedFirstMatrixWord) => matrix[0] ^= 1,
+            (Ok(recorded), LastStateWord) => recorded.state[15] ^= 1,
+            (Ok(recorded), RecordedRoundCount) => recorded.counts.rounds += 1,
+            (Ok(_), LastRecordWord) => record[used - 1] ^= 1,
+            (Ok(_), RowsExchanged) => record.swap(0, 1),
+            (Ok(_), WordPastRecord) => record[used..].iter_mut().take(1).for_each(|w| *w = 0),
+            (Err(_), RecordOnRefusal) => record.fill(0),
+            (Err(Refusal::RecordWords), MatrixOnShortRecord) => matrix.fill(0),
+            (Err(Refusal::RecordWords), KeyOnShortRecord) => key.fill(0),
+            (Err(Refusal::RecordWords), ShortRecordRefusedWith7) => {
+                answer = Err(Refusal::MatrixWords);
+            }
+            (_, RecordedMissing) => return None,
+            _ => (),
+        }
+        Some(answer)
+    }
+
     fn derive(
         &self,
         inputs: &Inputs,
@@ -106,6 +147,18 @@ fn every_fault_is_noticed() {
         CostOfOneBlock,
         EverythingRefused,
         RefusalNumber,
+        RecordedLastKeyByte,
+        RecordedFirstMatrixWord,
+        RecordedRoundCount,
+        RecordedMissing,
+        LastStateWord,
+        LastRecordWord,
+        RowsExchanged,
+        WordPastRecord,
+        RecordOnRefusal,
+        MatrixOnShortRecord,
+        KeyOnShortRecord,
+        ShortRecordRefusedWith7,
     ] {
         let noticed = |seed: u64| compare(&Faulty(fault), seed).is_err();
         assert!((0..5000).any(noticed), "{fault:?}");

@@ -5,7 +5,7 @@
 
 use derivation_link::library;
 use lyra2_reference::vectors::{Reference, Subject};
-use lyra2_reference::{Counts, Inputs, Parameters};
+use lyra2_reference::{derive_recorded, Counts, Inputs, Parameters};
 
 const MAX: u64 = usize::MAX as u64;
 /// What the lent places hold before a call.
@@ -22,9 +22,10 @@ struct Call {
     r: u64,
     c: u64,
     matrix: usize,
+    record: usize,
 }
 
-/// A call that every operation accepts, with a matrix that fits exactly.
+/// A call that every operation accepts, with a matrix and a record that fit exactly.
 const ACCEPTED: Call = Call {
     key: 32,
     password: 31,
@@ -33,11 +34,25 @@ const ACCEPTED: Call = Call {
     r: 3,
     c: 1,
     matrix: 36,
+    record: 12,
 };
 
-/// What the derivation, the check and the cost question answer: 0 or the number of a refusal. A refused
-/// call must have changed nothing, and an accepted one must have given what the second program gives.
-fn numbers(call: Call) -> [u32; 3] {
+/// The accepted call with another T, R and C, and buffers that fit exactly.
+fn fitting(t: u64, r: u64, c: u64) -> Call {
+    Call {
+        t,
+        r,
+        c,
+        matrix: (12 * r * c) as usize,
+        record: (r * t * (2 + 2 * c)) as usize,
+        ..ACCEPTED
+    }
+}
+
+/// What the recorded derivation, the plain one, the check and the cost question answer: 0 or the number of
+/// a refusal. A refused call must have changed nothing, and an accepted one must have given what the second
+/// program gives.
+fn numbers(call: Call) -> [u32; 4] {
     let inputs = Inputs {
         password: &vec![1; call.password],
         salt: &vec![2; call.salt],
@@ -45,25 +60,59 @@ fn numbers(call: Call) -> [u32; 3] {
         r: call.r,
         c: call.c,
     };
+    let recorded = recorded(&call, &inputs);
+    let [derived, checked] = derived_and_checked(&call, &inputs);
+    let costed = cost(&inputs.parameters(call.key));
+    [recorded, derived, checked, costed]
+}
+
+/// What the recorded derivation answers. The state and the counts are lent from one array, so that a word
+/// written beside them is seen.
+fn recorded(call: &Call, inputs: &Inputs) -> u32 {
+    let buffers = || {
+        let (matrix, record) = (vec![WORD; call.matrix], vec![WORD; call.record]);
+        (vec![BYTE; call.key], matrix, record)
+    };
+    let mut due = buffers();
+    let mut due_places = [WORD; 24];
+    let answer = derive_recorded(inputs, &mut due.0, &mut due.1, &mut due.2);
+    if let Ok(answer) = answer {
+        due_places[2..18].copy_from_slice(&answer.state);
+        due_places[20..23].copy_from_slice(&costs(answer.counts));
+    }
+
+    let (mut key, mut matrix, mut record) = buffers();
+    let mut places = [WORD; 24];
+    let (front, back) = places.split_at_mut(20);
+    let state = front[2..].first_chunk_mut().expect("18 words are left");
+    let spent = back.first_chunk_mut().expect("4 words are left");
+    let number = library::derive_recorded(inputs, &mut key, &mut matrix, &mut record, state, spent);
+    assert_eq!((&key, places), (&due.0, due_places), "{call:?}");
+    assert!(matrix == due.1, "derive_recorded, matrix: {call:?}");
+    assert!(record == due.2, "derive_recorded, record: {call:?}");
+    number
+}
+
+fn derived_and_checked(call: &Call, inputs: &Inputs) -> [u32; 2] {
     let mut due_key = vec![BYTE; call.key];
     let mut due_matrix = vec![WORD; call.matrix];
-    let due = Reference.derive(&inputs, &mut due_key, &mut due_matrix);
+    let due = Reference.derive(inputs, &mut due_key, &mut due_matrix);
     let due_costs = due.map_or([WORD; 3], costs);
 
     let (mut key, mut matrix) = (vec![BYTE; call.key], vec![WORD; call.matrix]);
     let mut spent = [WORD; 3];
-    let derived = library::derive(&inputs, &mut key, &mut matrix, &mut spent);
+    let derived = library::derive(inputs, &mut key, &mut matrix, &mut spent);
     assert_eq!((&key, spent), (&due_key, due_costs), "{call:?}");
     assert!(matrix == due_matrix, "derive, matrix: {call:?}");
 
     let (mut same, mut spent) = (BYTE.into(), [WORD; 3]);
     matrix.fill(WORD);
-    let checked = library::check(&inputs, &due_key, &mut matrix, &mut same, &mut spent);
+    let checked = library::check(inputs, &due_key, &mut matrix, &mut same, &mut spent);
     let due_same = due.map_or(BYTE.into(), |_| 1);
     assert_eq!((same, spent), (due_same, due_costs), "{call:?}");
     assert!(matrix == due_matrix, "check, matrix: {call:?}");
 
-    [derived, checked, cost(&inputs.parameters(call.key))]
+    [derived, checked]
 }
 
 fn costs(counts: Counts) -> [u64; 3] {
@@ -80,7 +129,7 @@ fn cost(given: &Parameters) -> u32 {
 }
 
 /// The numbers for a call that differs from the accepted one.
-fn changed(change: impl Fn(&mut Call)) -> [u32; 3] {
+fn changed(change: impl Fn(&mut Call)) -> [u32; 4] {
     let mut call = ACCEPTED;
     change(&mut call);
     numbers(call)
@@ -88,80 +137,98 @@ fn changed(change: impl Fn(&mut Call)) -> [u32; 3] {
 
 #[test]
 fn the_smallest_matrix_has_36_words() {
-    assert_eq!(numbers(ACCEPTED), [0; 3]);
+    assert_eq!(numbers(ACCEPTED), [0; 4]);
     for matrix in [0, 1, 12, 35] {
-        assert_eq!(changed(|call| call.matrix = matrix), [7, 7, 0]);
+        assert_eq!(changed(|call| call.matrix = matrix), [7, 7, 7, 0]);
     }
     for matrix in [37, 48, 1000] {
-        assert_eq!(changed(|call| call.matrix = matrix), [0; 3]);
+        assert_eq!(changed(|call| call.matrix = matrix), [0; 4]);
+    }
+}
+
+#[test]
+fn the_smallest_record_has_12_words() {
+    for record in [0, 1, 4, 11] {
+        assert_eq!(changed(|call| call.record = record), [8, 0, 0, 0]);
+    }
+    for record in [13, 16, 1000] {
+        assert_eq!(changed(|call| call.record = record), [0; 4]);
     }
 }
 
 #[test]
 fn key_lengths() {
     for key in [1, 2, 95, 96, 97, 1023, 1024] {
-        assert_eq!(changed(|call| call.key = key), [0; 3]);
+        assert_eq!(changed(|call| call.key = key), [0; 4]);
     }
     for key in [0, 1025, 1 << 16 | 32] {
-        assert_eq!(changed(|call| call.key = key), [1; 3]);
+        assert_eq!(changed(|call| call.key = key), [1; 4]);
     }
 }
 
 #[test]
 fn password_lengths() {
     for password in [0, 1, 1023, 1024] {
-        assert_eq!(changed(|call| call.password = password), [0; 3]);
+        assert_eq!(changed(|call| call.password = password), [0; 4]);
     }
     for password in [1025, 1 << 16 | 31] {
-        assert_eq!(changed(|call| call.password = password), [2; 3]);
+        assert_eq!(changed(|call| call.password = password), [2; 4]);
     }
 }
 
 #[test]
 fn salt_lengths() {
     for salt in [8, 9, 63, 64] {
-        assert_eq!(changed(|call| call.salt = salt), [0; 3]);
+        assert_eq!(changed(|call| call.salt = salt), [0; 4]);
     }
     for salt in [0, 7, 65, 1 << 8 | 8, 1 << 16 | 8] {
-        assert_eq!(changed(|call| call.salt = salt), [3; 3]);
+        assert_eq!(changed(|call| call.salt = salt), [3; 4]);
     }
 }
 
 // The refused numbers below include some whose low 8, 16 or 32 bits would be accepted.
 
+/// A call whose buffers fit exactly is accepted, and refused if one of them is a word shorter.
+fn assert_fits_exactly(call: Call) {
+    assert_eq!(numbers(call), [0; 4], "{call:?}");
+    let (matrix, record) = (call.matrix - 1, call.record - 1);
+    assert_eq!(numbers(Call { matrix, ..call }), [7, 7, 7, 0], "{call:?}");
+    assert_eq!(numbers(Call { record, ..call }), [8, 0, 0, 0], "{call:?}");
+    let both = Call {
+        matrix,
+        record,
+        ..call
+    };
+    assert_eq!(numbers(both), [7, 7, 7, 0], "{call:?}");
+}
+
 #[test]
 fn time_costs() {
     for t in [1, 2, 254, 255] {
-        assert_eq!(changed(|call| call.t = t), [0; 3]);
+        assert_fits_exactly(fitting(t, 3, 1));
     }
     for t in [0, 256, 1 << 16 | 1, 1 << 32 | 1, MAX - 1, MAX] {
-        assert_eq!(changed(|call| call.t = t), [4; 3]);
+        assert_eq!(changed(|call| call.t = t), [4; 4]);
     }
 }
 
 #[test]
 fn numbers_of_rows() {
     for r in [3, 4, 16_383, 16_384] {
-        let fitting = |call: &mut Call| (call.r, call.matrix) = (r, 12 * r as usize);
-        assert_eq!(changed(fitting), [0; 3]);
-        let short = |call: &mut Call| (call.r, call.matrix) = (r, 12 * r as usize - 1);
-        assert_eq!(changed(short), [7, 7, 0]);
+        assert_fits_exactly(fitting(1, r, 1));
     }
     for r in [0, 1, 2, 16_385, 1 << 16 | 3, 1 << 32 | 3, MAX - 1, MAX] {
-        assert_eq!(changed(|call| call.r = r), [5; 3]);
+        assert_eq!(changed(|call| call.r = r), [5; 4]);
     }
 }
 
 #[test]
 fn numbers_of_columns() {
     for c in [1, 2, 255, 256] {
-        let fitting = |call: &mut Call| (call.c, call.matrix) = (c, 36 * c as usize);
-        assert_eq!(changed(fitting), [0; 3]);
-        let short = |call: &mut Call| (call.c, call.matrix) = (c, 36 * c as usize - 1);
-        assert_eq!(changed(short), [7, 7, 0]);
+        assert_fits_exactly(fitting(1, 3, c));
     }
     for c in [0, 257, 1 << 16 | 1, 1 << 32 | 1, MAX - 1, MAX] {
-        assert_eq!(changed(|call| call.c = c), [6; 3]);
+        assert_eq!(changed(|call| call.c = c), [6; 4]);
     }
 }
 
@@ -175,19 +242,21 @@ fn make_hold(call: &mut Call, number: u32, high: bool) {
         4 => call.t = pick(0, MAX),
         5 => call.r = pick(2, MAX),
         6 => call.c = pick(0, MAX),
-        _ => call.matrix = pick(0, 35) as usize,
+        7 => call.matrix = pick(0, 35) as usize,
+        _ => call.record = pick(0, 11) as usize,
     }
 }
 
 #[test]
 fn of_several_refusals_the_lowest_number_is_returned() {
-    for set in 1u32..128 {
+    for set in 1u32..256 {
         for high in [false, true] {
-            let held = (1..=7).filter(|number| set & (1 << (number - 1)) != 0);
+            let held = (1..=8).filter(|number| set & (1 << (number - 1)) != 0);
             let first = held.clone().min().expect("the set is not empty");
             let found = changed(|call| held.clone().for_each(|n| make_hold(call, n, high)));
-            let costed = if first == 7 { 0 } else { first };
-            assert_eq!(found, [first, first, costed], "{set:b} {high}");
+            // An operation lacks the checks above its highest number.
+            let due = [8, 7, 7, 6].map(|highest| if first <= highest { first } else { 0 });
+            assert_eq!(found, due, "{set:b} {high}");
         }
     }
 }

@@ -3,7 +3,7 @@
 use derivation_link::compare::compare;
 use derivation_link::Proved;
 use lyra2_reference::vectors::random::{question, Random};
-use lyra2_reference::vectors::{run, Reference};
+use lyra2_reference::vectors::{run, Case, Coverage, Reference};
 use std::collections::BTreeSet;
 
 const FIRST_SEED: u64 = 0x4c79_7261_3200;
@@ -36,22 +36,23 @@ fn every_length_and_every_refusal_is_met_and_the_two_programs_agree() {
     assert_eq!(met.keys, (1..=1024).collect());
     assert_eq!(met.passwords, (0..=1024).collect());
     assert_eq!(met.salts, (8..=64).collect());
-    assert_eq!(met.refusals, (1..=7).collect());
+    assert_eq!(met.refusals, (1..=8).collect());
 }
 
-/// The second program's own questions, with larger matrices than the comparisons have.
+/// The second program's own questions, recorded derivations of larger matrices than the comparisons have.
 #[test]
 fn questions_of_the_second_program() {
     let mut random = Random::new(FIRST_SEED);
-    let mut shared = 0;
-    for place in 1..=QUESTIONS {
+    for number in 1..=QUESTIONS {
         let question = question(&mut random);
         let answer = run::ask(&Reference, &question).expect("the second program keeps its buffers");
-        match run::agree(&Proved, &question, &answer) {
-            Ok(asked) => shared += u64::from(asked),
-            Err(what) => panic!("seed {FIRST_SEED}, question {place}: {what}"),
-        }
+        let case = Case {
+            number,
+            question,
+            answer,
+        };
+        let outcome = run::check_case(&Proved, &case);
+        let place = format!("seed {FIRST_SEED}, question {number}");
+        assert_eq!(outcome, Ok(Coverage::Whole), "{place}");
     }
-    // The rest are refused for their record, which the library is not lent.
-    assert!(shared > QUESTIONS * 9 / 10, "{shared} questions");
 }

@@ -1,7 +1,7 @@
 //! The vectors file put to the proved library.
 //!
-//! The library has no recorded derivation yet; a line for it is put to the plain derivation, the check and
-//! the cost question, which share its key, counts and matrix.
+//! A line of the recorded derivation is also put to the plain derivation, the check and the cost question,
+//! which share its key, counts and matrix.
 
 use derivation_link::Proved;
 use lyra2_reference::vectors::{read, run, Answer, Case, Coverage, Question};
@@ -16,31 +16,20 @@ fn cases() -> Vec<(usize, Case)> {
     read(&file).expect("the vectors file can be read")
 }
 
-/// What a line can be held against; tests/walk.sh runs the lines of the walk program.
-fn due(case: &Case) -> Coverage {
-    match (&case.question, &case.answer) {
-        (Question::WalkProgram { .. }, _) => Coverage::Nothing,
-        (_, Answer::Refused(Refusal::RecordWords)) => Coverage::Nothing,
-        (Question::DeriveRecorded { .. }, _) => Coverage::SharedPart,
-        _ => Coverage::Whole,
+/// Runs the lines that are wanted, each whole, and returns how many there are. No test wants the lines of
+/// the walk program, which tests/walk.sh runs.
+fn run_lines(wanted: impl Fn(&Case) -> bool) -> usize {
+    let mut lines = cases();
+    lines.retain(|(_, case)| wanted(case));
+    for (line, case) in &lines {
+        let outcome = run::check_case(&Proved, case);
+        assert_eq!(outcome, Ok(Coverage::Whole), "line {line}");
     }
+    lines.len()
 }
 
-/// Runs the lines that are wanted, and returns how many told something about the library.
-fn run_lines(wanted: impl Fn(&Question) -> bool) -> usize {
-    let mut held = 0;
-    for (line, case) in cases() {
-        if wanted(&case.question) && due(&case) != Coverage::Nothing {
-            let outcome = run::check_case(&Proved, &case);
-            assert_eq!(outcome, Ok(due(&case)), "line {line}");
-            held += 1;
-        }
-    }
-    held
-}
-
-fn lends_many_words(question: &Question) -> bool {
-    match question {
+fn lends_many_words(case: &Case) -> bool {
+    match &case.question {
         Question::DeriveRecorded { given, .. }
         | Question::Derive { given, .. }
         | Question::Check { given, .. } => given.matrix_words > MANY_WORDS,
@@ -48,40 +37,63 @@ fn lends_many_words(question: &Question) -> bool {
     }
 }
 
+/// A recorded derivation that lends no 400 MB.
+fn is_recorded(case: &Case) -> bool {
+    matches!(case.question, Question::DeriveRecorded { .. }) && !lends_many_words(case)
+}
+
+fn is_listed_in_full(case: &Case) -> bool {
+    matches!(&case.answer, Answer::Recorded { in_full, .. } if in_full.is_some())
+}
+
+fn has_a_short_record(case: &Case) -> bool {
+    case.answer == Answer::Refused(Refusal::RecordWords)
+}
+
 #[test]
 fn recorded_derivations() {
-    let wanted = |question: &Question| {
-        matches!(question, Question::DeriveRecorded { .. }) && !lends_many_words(question)
-    };
+    let wanted =
+        |case: &Case| is_recorded(case) && !is_listed_in_full(case) && !has_a_short_record(case);
     assert!(run_lines(wanted) >= 1500);
 }
 
-/// One line derives, another is refused; both times the call is lent 400 MB.
+#[test]
+fn recorded_derivations_whose_matrix_and_record_are_listed() {
+    assert!(run_lines(is_listed_in_full) >= 12);
+}
+
+#[test]
+fn recorded_derivations_with_a_short_record() {
+    let wanted = |case: &Case| is_recorded(case) && has_a_short_record(case);
+    assert!(run_lines(wanted) >= 15);
+}
+
+/// One line derives; one is refused for its matrix, and two for their records. All are lent 400 MB.
 #[test]
 fn recorded_derivations_with_the_largest_matrix() {
-    assert_eq!(run_lines(lends_many_words), 2);
+    assert_eq!(run_lines(lends_many_words), 4);
 }
 
 #[test]
 fn plain_derivations() {
-    let wanted = |question: &Question| matches!(question, Question::Derive { .. });
+    let wanted = |case: &Case| matches!(case.question, Question::Derive { .. });
     assert!(run_lines(wanted) >= 100);
 }
 
 #[test]
 fn checks() {
-    let wanted = |question: &Question| matches!(question, Question::Check { .. });
+    let wanted = |case: &Case| matches!(case.question, Question::Check { .. });
     assert!(run_lines(wanted) >= 160);
 }
 
 #[test]
 fn cost_questions() {
-    let wanted = |question: &Question| matches!(question, Question::Cost(_));
+    let wanted = |case: &Case| matches!(case.question, Question::Cost(_));
     assert!(run_lines(wanted) >= 120);
 }
 
 #[test]
 fn walk_questions() {
-    let wanted = |question: &Question| matches!(question, Question::Walk { .. });
+    let wanted = |case: &Case| matches!(case.question, Question::Walk { .. });
     assert!(run_lines(wanted) >= 220);
 }
