@@ -60,7 +60,7 @@ module _ (b : ℕ) (h : b < 256) where
         meets = derived-yes (b ∷ []) salt 1 3 1 key matrix visited _ 0 not-refused _ _ _ refl refl refl refl refl;
         accepted = taken;
         password-bytes = byte-is b h;
-        salt-bytes = zero-bytes 8
+        salt-bytes = zero-bytes 8;
       }
 
 -- the passwords 0 and 1, a byte each

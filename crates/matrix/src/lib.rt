@@ -1,4 +1,5 @@
 // The lent matrix: its cells, and what is written to them from the sponge's output.
+use sponge::duplex::output;
 ghost use mathlib.Core.Path.{_≡_};
 ghost use Prim.Native.Nat.{_+_, _*_, _≤_, _<_, _^_};
 ghost use lib.ListN.{length};
@@ -31,14 +32,16 @@ pub fn cell(m: &[u64], row: Row, col: Column, columns: usize) -> &[u64]
     &m[a..e]
 }
 
-// The output written to the cell that starts at a.
+// The output written to the cell that starts at a. It is copied first, here and below: the compiler then knows that no
+// store to the matrix changes it.
 pub fn put_output(m: &mut [u64], a: usize, s: &[u64; 16])
     requires { ⌜ a + 12 ≤ length (now m) ⌝ }
     ensures { λ _. ⌜ now (m .exit) ≡ zipAt (λ x y. y) a (now (m .entry)) (rand (now (s .entry))) ⌝ }
 {
+    let r = output(s);
     let mut j = 0;
     while j < 12 {
-        m[a + j] = s[j];
+        m[a + j] = r[j];
         j += 1;
     }
 }
@@ -60,9 +63,10 @@ pub fn xor_output(m: &mut [u64], a: usize, s: &[u64; 16])
     requires { ⌜ a + 12 ≤ length (now m) ⌝ }
     ensures { λ _. ⌜ now (m .exit) ≡ zipAt bitXor a (now (m .entry)) (rand (now (s .entry))) ⌝ }
 {
+    let r = output(s);
     let mut j = 0;
     while j < 12 {
-        m[a + j] = m[a + j] ^ s[j];
+        m[a + j] = m[a + j] ^ r[j];
         j += 1;
     }
 }
@@ -72,9 +76,10 @@ pub fn xor_rotated(m: &mut [u64], a: usize, s: &[u64; 16])
     requires { ⌜ a + 12 ≤ length (now m) ⌝ }
     ensures { λ _. ⌜ now (m .exit) ≡ zipAt bitXor a (now (m .entry)) (rotated 2 (rand (now (s .entry)))) ⌝ }
 {
+    let r = output(s);
     let mut j = 0;
     while j < 12 {
-        m[a + j] = m[a + j] ^ s[(j + 2) % 12];
+        m[a + j] = m[a + j] ^ r[(j + 2) % 12];
         j += 1;
     }
 }

@@ -1,25 +1,30 @@
 -- `xor_output` meets its contract. The loop's invariant: the first j words are in place. Assumes nothing.
-use mathlib.Core.Path.{_≡_, refl, sym}
-use Prim.Native.Nat.{_≤_, _-_}
+use mathlib.Core.Path.{_≡_, refl, sym, ap}
+use Prim.Native.Nat.{ℕ, _≤_, _-_}
 use native.Mathlib.Omega.{arith}
 use native.Mathlib.Numerals.{add-one}
-use lib.ListN.{length, take, length-set}
+use mathlib.Core.List.{List}
+use lib.ListN.{length, getD, take, length-set}
 use lib.Bits.{bitXor}
 use denote.Ref.{now}
 use Rattle.lists.specs.Zip.{zipAt}
 use Rattle.lists.proofs.ZipLaws.{zipAt-none, zipAt-again, zipAt-end}
 use Rattle.sponge.specs.Sponge.{rand}
-use Rattle.sponge.proofs.Output.{length-rand, getD-rand}
+use Rattle.sponge.proofs.Output.{length-rand}
 use Rattle.matrix.proofs.xor_output.Statement.{statement}
 use Rattle.matrix.proofs.xor_output.Tie as tie
 use Rattle.matrix.proofs.xor_output.Reads as reads
 use Rattle.matrix.proofs.xor_output.Lts as lts
+use Rattle.sponge.proofs.duplex.output.Reads as output-reads
 
 abbrev Inv-loop : tie.InvT-loop
-Inv-loop m₀ a s j₀ m j = (j ≤ 12) × (length m ≡ length m₀) × (m ≡ zipAt bitXor a m₀ (take j (rand s)))
+Inv-loop m₀ a s r j₀ m j = (j ≤ 12) × (length m ≡ length m₀) × (m ≡ zipAt bitXor a m₀ (take j (rand s)))
 
 abbrev μ-loop : tie.MeasureT-loop
-μ-loop m₀ a s j₀ m j = 12 - j
+μ-loop m₀ a s r j₀ m j = 12 - j
+
+output-requires : tie.Need-output-requires Inv-loop μ-loop
+output-requires c κs = tt
 
 loop-holds : tie.Need-loop-holds Inv-loop μ-loop
 loop-holds c = (omega arith, refl, sym (zipAt-none bitXor _ _))
@@ -36,8 +41,8 @@ slice-read-m c = omega arith
 mul-m-2 : tie.Need-mul-m-2 Inv-loop μ-loop
 mul-m-2 c = omega arith
 
-element-copy-out-m : tie.Need-element-copy-out-m Inv-loop μ-loop
-element-copy-out-m c = omega arith
+array-read-m : tie.Need-array-read-m Inv-loop μ-loop
+array-read-m c = omega arith
 
 add-m-2 : tie.Need-add-m-2 Inv-loop μ-loop
 add-m-2 c = omega arith
@@ -56,13 +61,14 @@ loop-less c = omega arith
 
 loop-again : tie.Need-loop-again Inv-loop μ-loop
 loop-again c =
-    let head = c .before .before .before in
-    let start = head .before in (
+    let head = c .before .before in
+    let start = head .before .before .before in
+    let out = head .before .output .ensures in (
       omega arith,
       simp length-set (head .loop .inv .1),
       rw add-one
           (zipAt-again bitXor _ _ _ _ _ 12 (length-rand (now (start .args .s))) (head .loop .inv .2) _ (omega arith)
-          (sym (getD-rand (now (start .args .s)) (head .loop .j) (omega arith)))),
+          (ap (λ (l : List ℕ). getD l (head .loop .j) 0) out)),
     )
 
 same-length : tie.Need-same-length Inv-loop μ-loop
@@ -70,7 +76,7 @@ same-length c = c .before .loop .inv .1
 
 returns : tie.Need-returns Inv-loop μ-loop
 returns c =
-    let start = c .before .before in
+    let start = c .before .before .before .before in
     zipAt-end bitXor _ _ _ _ (c .before .loop .j) 12 (length-rand (now (start .args .s))) (c .before .loop .inv .2) (omega arith)
 
 pub xor-output-spec : {M : Type 1} → statement M
@@ -79,12 +85,13 @@ xor-output-spec =
     (tie.spec
     Inv-loop
     μ-loop
+    output-requires
     loop-holds
     add-m
     mul-m
     slice-read-m
     mul-m-2
-    element-copy-out-m
+    array-read-m
     add-m-2
     mul-m-3
     slice-write-m
