@@ -106,13 +106,29 @@ pub fn picked(word: u64, n: usize) -> usize
     (word % (n as u64)) as usize
 }
 
+// The same for columns, whose number is mostly a power of two: a remainder by a constant one is no division.
+fn picked_column(word: u64, n: usize) -> usize
+    requires { ⌜ 0 < n ⌝ }
+    ensures { λ r. ⌜ r ≡ word % n ⌝ }
+    ensures { λ r. ⌜ r < n ⌝ }
+{
+    match n {
+        16 => (word % 16) as usize,
+        32 => (word % 32) as usize,
+        64 => (word % 64) as usize,
+        128 => (word % 128) as usize,
+        256 => (word % 256) as usize,
+        _ => picked(word, n),
+    }
+}
+
 // The columns that a visit picks from the output.
 fn pick_columns(s: &[u64; 16], columns: usize) -> Picks
     requires { ⌜ 0 < columns ⌝ }
     ensures { λ r. ⌜ (r ≡ picks profile columns (now (s .entry))) × (r .col0 .0 < columns) × (r .col1 .0 < columns) ⌝ }
 {
-    let col0 = Column(picked(s[4], columns));
-    let col1 = Column(picked(s[6], columns));
+    let col0 = Column(picked_column(s[4], columns));
+    let col1 = Column(picked_column(s[6], columns));
     Picks { col0, col1 }
 }
 

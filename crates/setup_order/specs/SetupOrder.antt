@@ -20,7 +20,7 @@ moved o =
       prev1 = o .row1;
     }
 
--- wnd doubles, stp = sqrt + gap, gap changes sign, and if gap is then −1, sqrt doubles
+-- a window twice as wide: the step is sqrt + gap, then the gap's sign turns, and where it has become −1 sqrt doubles as well
 unfoldable pub newWindow : Order → Order
 newWindow o =
     let rising = not (o .rising) in

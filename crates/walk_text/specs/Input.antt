@@ -10,7 +10,7 @@ unfoldable pub numberFrom : ℕ → List ℕ → ℕ
 numberFrom v [] = v
 numberFrom v (b ∷ bs) = cond (leb 48 b && leb b 57) (numberFrom (v * 10 + (b - 48)) bs) 0
 
--- one to five decimal digits without a leading zero, one newline and then the end; any other input is 0, outside the limits
+-- the number that up to five digits write, the first of them not 0, with a newline behind them and nothing more; any other input is 0, which is outside the limits
 unfoldable pub rowsRead : List ℕ → ℕ
 rowsRead input =
     let n = length input - 1 in
