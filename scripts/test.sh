@@ -65,7 +65,7 @@ for library in $(sed -n 's/^\([a-z0-9_]*_export\):.*/\1/p' crates.txt); do
     step "static library $library" rt staticlib "$library"
 done
 if cargo fmt --version >/dev/null 2>&1; then
-    step "the layout of the Rust files" cargo fmt --check --manifest-path rust/Cargo.toml
+    step "the layout of the Rust files" cargo fmt --all --check --manifest-path rust/Cargo.toml
 fi
 run cargo test --offline --no-fail-fast --manifest-path rust/Cargo.toml
 results=$(printf '%s\n' "$output" | grep '^test result:')
