@@ -9,14 +9,17 @@ use lib.ListN.{length}
 use lib.Bits.{bitXor}
 use Rattle.lists.specs.Zip.{xorInto}
 use Rattle.lists.proofs.ZipLaws.{length-zip}
+use Rattle.permutation.specs.Word.{plainSum}
 use Rattle.permutation.specs.Inverse.{Addition}
 use Rattle.permutation.proofs.State.{IsState}
-use Rattle.sponge.specs.Sponge.{rand}
+use Rattle.sponge.specs.Profile.{reducedRounds}
+use Rattle.sponge.specs.Sponge.{absorb, rand}
 use Rattle.sponge.proofs.Output.{length-rand, rand-words}
 use Rattle.matrix.proofs.CellLaws.{length-cell}
 use Rattle.matrix.proofs.Apart.{cell, row-before}
-use Rattle.columns.specs.Settings.{Settings, settings}
+use Rattle.columns.specs.Settings.{Settings, settings, profile, work}
 use Rattle.columns.specs.Bounds.{Earlier}
+use Rattle.columns.proofs.RowLaws.{row1-before}
 use Rattle.columns.specs.Columns.{fillColumn, copyColumn, setupCells, setupWritten, setupColumn, picks, visitCells, visitWritten, visitColumn}
 use Rattle.columns.specs.declared.Rows.{Rows}
 use Rattle.columns.specs.declared.Picks.{Picks}
@@ -74,7 +77,7 @@ module _ (A : Addition) (ρ ω n C : ℕ) where
       let of = made-before (r .row0 .0) col inside lt in
       keeps-then
       (keeps-duplex n A ρ
-      (made-sum (made-sum (of (r .row1 .0) (is .row1)) (of (r .prev0 .0) (is .prev0))) (of (r .prev1 .0) (is .prev1))))
+      (made-sum (made-sum (of (r .row1 .0) (row1-before C r is)) (of (r .prev0 .0) (is .prev0))) (of (r .prev1 .0) (is .prev1))))
       (keeps-then (keeps-fill-xored (r .row0 .0) col inside lt (r .prev0 .0) (is .prev0))
       (keeps-xor-rotated n (r .row1 .0 * C + col) ω))
 
@@ -108,3 +111,9 @@ module _ (A : Addition) (ρ ω R C : ℕ) where
   unfolding picks
   picked-column-keeps r below col lt s =
       visit-column-keeps r below col lt (picks (settings A ρ ω) C s) (mod-lt _ (omega arith)) (mod-lt _ (omega arith))
+
+-- the two parts of a visit's column together
+pub visit-column-done : (C : ℕ) (r : Rows) (col : ℕ) (p : Picks) (s m s′ m′ : List ℕ) → s′ ≡ absorb plainSum reducedRounds (visitCells C r col p m) s
+    → m′ ≡ visitWritten 2 C r col s′ m → work s′ m′ ≡ visitColumn profile C r col p (work s m)
+unfolding visitColumn
+visit-column-done C r col p s m s′ m′ es em = cc

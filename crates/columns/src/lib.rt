@@ -3,10 +3,10 @@ use matrix::Column;
 use matrix::Row;
 use matrix::cell;
 use matrix::cell_start;
+use matrix::put_both;
 use matrix::put_output;
 use matrix::put_xored;
-use matrix::xor_output;
-use matrix::xor_rotated;
+use matrix::xor_both;
 use sponge::duplex::duplex;
 use sponge::duplex::duplex_sum3;
 use sponge::duplex::duplex_sum4;
@@ -19,7 +19,7 @@ ghost use Rattle.sponge.specs.Profile.{reducedRounds};
 ghost use Rattle.sponge.specs.Sponge.{absorb};
 ghost use Rattle.columns.specs.Bounds.{Earlier, Within};
 ghost use Rattle.columns.specs.Settings.{profile, work};
-ghost use Rattle.columns.specs.Columns.{fillColumn, copyColumn, setupCells, setupWritten, setupColumn, picks, visitCells, visitWritten, visitColumn};
+ghost use Rattle.columns.specs.Columns.{fillColumn, copyColumn, setupCells, setupWritten, setupColumn, picks, visitCells, visitWritten};
 
 // The rows of a Setup step or of a visit, and those of the one before it.
 pub struct Rows {
@@ -83,9 +83,8 @@ fn write_setup(m: &mut [u64], s: &[u64; 16], rows: Rows, col: usize, columns: us
 {
     let a = cell_start(rows.prev0, Column(col), columns);
     let b = cell_start(rows.row0, Column(columns - 1 - col), columns);
-    put_xored(m, a, b, s);
     let d = cell_start(rows.row1, Column(col), columns);
-    xor_rotated(m, d, s);
+    put_both(m, a, b, d, s);
 }
 
 // A column of a row from 3 on.
@@ -123,7 +122,7 @@ fn picked_column(word: u64, n: usize) -> usize
 }
 
 // The columns that a visit picks from the output.
-fn pick_columns(s: &[u64; 16], columns: usize) -> Picks
+pub fn pick_columns(s: &[u64; 16], columns: usize) -> Picks
     requires { ⌜ 0 < columns ⌝ }
     ensures { λ r. ⌜ (r ≡ picks profile columns (now (s .entry))) × (r .col0 .0 < columns) × (r .col1 .0 < columns) ⌝ }
 {
@@ -152,24 +151,23 @@ fn write_visit(m: &mut [u64], s: &[u64; 16], rows: Rows, col: usize, columns: us
     ensures { λ _. ⌜ now (m .exit) ≡ visitWritten 2 columns rows col (now (s .entry)) (now (m .entry)) ⌝ }
 {
     let a = cell_start(rows.row0, Column(col), columns);
-    xor_output(m, a, s);
     let b = cell_start(rows.row1, Column(col), columns);
-    xor_rotated(m, b, s);
+    xor_both(m, a, b, s);
 }
 
-// A column of a visit; the answer is the columns that it picked.
+// A column of a visit with the columns that were picked for it; the answer is those for the next one.
 pub fn visit_column(
     s: &mut [u64; 16],
     m: &mut [u64],
     rows: Rows,
     col: usize,
+    p: Picks,
     columns: usize,
 ) -> Picks
-    requires { ⌜ (col < columns) × Within columns rows (length (now m)) ⌝ }
-    ensures { λ r. ⌜ (r ≡ picks profile columns (now (s .entry))) × (work (now (s .exit)) (now (m .exit)) ≡ visitColumn profile columns rows col r (work (now (s .entry)) (now (m .entry)))) ⌝ }
+    requires { ⌜ (col < columns) × (p .col0 .0 < columns) × (p .col1 .0 < columns) × Within columns rows (length (now m)) ⌝ }
+    ensures { λ r. ⌜ (r ≡ picks profile columns (now (s .exit))) × (r .col0 .0 < columns) × (r .col1 .0 < columns) × (now (s .exit) ≡ absorb plainSum reducedRounds (visitCells columns rows col p (now (m .entry))) (now (s .entry))) × (now (m .exit) ≡ visitWritten 2 columns rows col (now (s .exit)) (now (m .entry))) ⌝ }
 {
-    let p = pick_columns(s, columns);
     duplex_visit(s, m, rows, col, p, columns);
     write_visit(m, s, rows, col, columns);
-    p
+    pick_columns(s, columns)
 }

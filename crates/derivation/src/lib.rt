@@ -61,7 +61,7 @@ fn walk(
     columns: usize,
     record: &mut [u64],
 ) -> Walked
-    requires { ⌜ (3 ≤ rows) × (rows ≤ 16384) × (columns ≤ 256) × (time ≤ 255) × (12 * (rows * columns) ≤ length (now m)) ⌝ }
+    requires { ⌜ (3 ≤ rows) × (rows ≤ 16384) × (columns ≤ 256) × (time ≤ 255) × (12 * (rows * columns) ≤ length (now m)) × (1 ≤ columns) ⌝ }
     ensures { λ r. ⌜ (r .calls ≡ rows * columns * (time + 1)) × (r .row0 .0 < rows) × (walk (work (now (s .exit)) (now (m .exit))) (r .row0 .0) (r .row1 .0) ≡ walkEnd profile time rows columns (now (s .entry)) (now (m .entry))) × (now («record» .exit) ≡ putInto (now («record» .entry)) (encode (walkVisits profile time rows columns (now (s .entry)) (now (m .entry))))) ⌝ }
 {
     let set = setup::set_up(s, m, rows, columns);
@@ -104,7 +104,7 @@ pub fn run(
     m: &mut [u64],
     record: &mut [u64],
 ) -> Ran
-    requires { ⌜ (length (now password) ≤ 1024) × (length (now salt) ≤ 64) × (3 ≤ rows) × (rows ≤ 16384) × (columns ≤ 256) × (time ≤ 255) × (12 * (rows * columns) ≤ length (now m)) ⌝ }
+    requires { ⌜ (length (now password) ≤ 1024) × (length (now salt) ≤ 64) × (3 ≤ rows) × (rows ≤ 16384) × (columns ≤ 256) × (time ≤ 255) × (12 * (rows * columns) ≤ length (now m)) × (1 ≤ columns) ⌝ }
     ensures { λ r. ⌜ (r .full ≡ blocks (length (now (password .entry))) (length (now (salt .entry))) 6) × (r .reduced ≡ reducedCost time rows columns) × (r .row0 .0 < rows) × (walk (work (now (s .exit)) (now (m .exit))) (r .row0 .0) (r .row1 .0) ≡ walkEnd profile time rows columns (absorbInput plainSum (now (password .entry)) (now (salt .entry)) (numbers «key_length» (now (password .entry)) (now (salt .entry)) time rows columns) (now (s .entry))) (now (m .entry))) × (now («record» .exit) ≡ putInto (now («record» .entry)) (encode (walkVisits profile time rows columns (absorbInput plainSum (now (password .entry)) (now (salt .entry)) (numbers «key_length» (now (password .entry)) (now (salt .entry)) time rows columns) (now (s .entry))) (now (m .entry))))) ⌝ }
 {
     let full = input::absorb_input(s, password, salt, key_length, time, rows, columns);

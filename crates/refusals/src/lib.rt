@@ -2,6 +2,7 @@
 ghost use mathlib.Core.Path.{_≡_};
 ghost use mathlib.Core.Bool.{cond};
 ghost use mathlib.Core.List.{List, [], _∷_};
+ghost use Prim.Native.Nat.{_+_, _*_, _≤_, _<_, _^_};
 ghost use Rattle.refusals.specs.Checks.{first, outside as «is-outside», costChecks, plainChecks, recordedChecks, walkChecks, timeCheck, rowsCheck, columnsCheck};
 
 pub const KEY_LENGTH: u32 = 1;
@@ -96,6 +97,15 @@ pub fn plain_refusal(
     first_of(matrix < 12 * (rows * columns), MATRIX_LENGTH, 0)
 }
 
+// The words that the record of n visits takes.
+fn record_words(n: usize, columns: usize) -> usize
+    requires { ⌜ (columns ≤ 256) × (n * (2 + 2 * columns) < 2 ^ 64) ⌝ }
+    ensures { λ r. ⌜ r ≡ n * (2 + 2 * columns) ⌝ }
+{
+    let visit = 2 + 2 * columns;
+    n * visit
+}
+
 // Checks 1 to 8, of the same and of the lent record's length.
 pub fn recorded_refusal(
     key: usize,
@@ -113,7 +123,11 @@ pub fn recorded_refusal(
     if number != 0 {
         return number;
     }
-    first_of(record < rows * time * (2 + 2 * columns), RECORD_LENGTH, 0)
+    first_of(
+        record < record_words(rows * time, columns),
+        RECORD_LENGTH,
+        0,
+    )
 }
 
 // Check 5 alone, of R: what the walk program asks.

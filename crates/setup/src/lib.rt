@@ -48,13 +48,16 @@ fn setup_row(s: &mut [u64; 16], m: &mut [u64], rows: Rows, columns: usize) -> u6
     requires { ⌜ (12 * (rows .row0 .0 * columns + columns) ≤ length (now m)) × Earlier columns rows ⌝ }
     ensures { λ r. ⌜ (r ≡ columns) × (work (now (s .exit)) (now (m .exit)) ≡ setupRow profile columns rows (work (now (s .entry)) (now (m .entry)))) ⌝ }
 {
+    // The state as a local is kept in registers from column to column.
+    let mut state = *s;
     let mut calls: u64 = 0;
     let mut col = 0;
     while col < columns {
-        setup_column(s, m, rows, col, columns);
+        setup_column(&mut state, m, rows, col, columns);
         calls += 1;
         col += 1;
     }
+    *s = state;
     calls
 }
 

@@ -1,6 +1,7 @@
 // Wandering: the visits, and a record of what they picked where the caller lends one.
 use columns::Picks;
 use columns::Rows;
+use columns::pick_columns;
 use columns::picked;
 use columns::visit_column;
 use matrix::Row;
@@ -41,17 +42,21 @@ fn visit_row(
     record: &mut [u64],
     at: usize,
 ) -> u64
-    requires { ⌜ Within columns rows (length (now m)) × (at + 2 * columns < 2 ^ 64) ⌝ }
+    requires { ⌜ (0 < columns) × Within columns rows (length (now m)) × (at + 2 * columns < 2 ^ 64) ⌝ }
     ensures { λ r. ⌜ (r ≡ columns) × (work (now (s .exit)) (now (m .exit)) ≡ visitColumns profile columns rows columns (work (now (s .entry)) (now (m .entry)))) × (now («record» .exit) ≡ zipAt (λ x y. y) at (now («record» .entry)) (encodePicks (columnPicks profile columns rows columns (work (now (s .entry)) (now (m .entry)))))) ⌝ }
 {
+    // The state as a local is kept in registers from column to column.
+    let mut state = *s;
+    let mut p = pick_columns(&state, columns);
     let mut calls: u64 = 0;
     let mut col = 0;
     while col < columns {
-        let p = visit_column(s, m, rows, col, columns);
-        calls += 1;
         note_pair(record, at + 2 * col, p.col0.0, p.col1.0);
+        p = visit_column(&mut state, m, rows, col, p, columns);
+        calls += 1;
         col += 1;
     }
+    *s = state;
     calls
 }
 
@@ -88,7 +93,7 @@ fn visit(
     record: &mut [u64],
     at: usize,
 ) -> Visited
-    requires { ⌜ (prev0 .0 < rows) × (prev1 .0 < rows) × (12 * (rows * columns) ≤ length (now m)) × (at + (2 + 2 * columns) < 2 ^ 64) ⌝ }
+    requires { ⌜ (0 < columns) × (prev0 .0 < rows) × (prev1 .0 < rows) × (12 * (rows * columns) ≤ length (now m)) × (at + (2 + 2 * columns) < 2 ^ 64) ⌝ }
     ensures { λ r. ⌜ (r .calls ≡ columns) × (r .row0 .0 < rows) × (r .row1 .0 < rows) × (walk (work (now (s .exit)) (now (m .exit))) (r .row0 .0) (r .row1 .0) ≡ visit profile rows columns (walk (work (now (s .entry)) (now (m .entry))) (prev0 .0) (prev1 .0))) × (now («record» .exit) ≡ zipAt (λ x y. y) at (now («record» .entry)) (encodeVisit (visitData profile rows columns (walk (work (now (s .entry)) (now (m .entry))) (prev0 .0) (prev1 .0))))) ⌝ }
 {
     let r = pick_rows(s, prev0, prev1, rows);
@@ -110,7 +115,7 @@ pub fn wander(
     columns: usize,
     record: &mut [u64],
 ) -> Visited
-    requires { ⌜ (prev0 .0 < rows) × (prev1 .0 < rows) × (12 * (rows * columns) ≤ length (now m)) × (n * (2 + 2 * columns) < 2 ^ 63) × (n * columns < 2 ^ 63) ⌝ }
+    requires { ⌜ (0 < columns) × (prev0 .0 < rows) × (prev1 .0 < rows) × (12 * (rows * columns) ≤ length (now m)) × (n * (2 + 2 * columns) < 2 ^ 63) × (n * columns < 2 ^ 63) ⌝ }
     ensures { λ r. ⌜ (r .calls ≡ n * columns) × (r .row0 .0 < rows) × (walk (work (now (s .exit)) (now (m .exit))) (r .row0 .0) (r .row1 .0) ≡ wander profile rows columns n (walk (work (now (s .entry)) (now (m .entry))) (prev0 .0) (prev1 .0))) × (now («record» .exit) ≡ putInto (now («record» .entry)) (encode (visits profile rows columns n (walk (work (now (s .entry)) (now (m .entry))) (prev0 .0) (prev1 .0))))) ⌝ }
 {
     let mut row0 = prev0.0;

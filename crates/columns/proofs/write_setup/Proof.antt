@@ -6,8 +6,7 @@ use Rattle.columns.proofs.write_setup.Tie as tie
 use Rattle.columns.proofs.write_setup.Reads as reads
 use Rattle.columns.proofs.write_setup.Lts as lts
 use Rattle.matrix.proofs.cell_start.Reads as cell-start-reads
-use Rattle.matrix.proofs.put_xored.Reads as put-xored-reads
-use Rattle.matrix.proofs.xor_rotated.Reads as xor-rotated-reads
+use Rattle.matrix.proofs.put_both.Reads as put-both-reads
 
 cell-start-requires : tie.Need-cell-start-requires
 cell-start-requires c κs = search needs
@@ -21,14 +20,11 @@ sub-t11 c = search needs
 cell-start-requires-2 : tie.Need-cell-start-requires-2
 cell-start-requires-2 c κs = search needs
 
-put-xored-requires : tie.Need-put-xored-requires
-put-xored-requires c κs = search needs
-
 cell-start-requires-3 : tie.Need-cell-start-requires-3
 cell-start-requires-3 c κs = search needs
 
-xor-rotated-requires : tie.Need-xor-rotated-requires
-xor-rotated-requires c κs = search needs
+put-both-requires : tie.Need-put-both-requires
+put-both-requires c κs = search needs
 
 same-length : tie.Need-same-length
 same-length c = search needs
@@ -45,8 +41,7 @@ write-setup-spec =
     sub-t10
     sub-t11
     cell-start-requires-2
-    put-xored-requires
     cell-start-requires-3
-    xor-rotated-requires
+    put-both-requires
     same-length
     returns)

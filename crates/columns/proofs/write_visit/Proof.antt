@@ -6,20 +6,16 @@ use Rattle.columns.proofs.write_visit.Tie as tie
 use Rattle.columns.proofs.write_visit.Reads as reads
 use Rattle.columns.proofs.write_visit.Lts as lts
 use Rattle.matrix.proofs.cell_start.Reads as cell-start-reads
-use Rattle.matrix.proofs.xor_output.Reads as xor-output-reads
-use Rattle.matrix.proofs.xor_rotated.Reads as xor-rotated-reads
+use Rattle.matrix.proofs.xor_both.Reads as xor-both-reads
 
 cell-start-requires : tie.Need-cell-start-requires
 cell-start-requires c κs = search needs
 
-xor-output-requires : tie.Need-xor-output-requires
-xor-output-requires c κs = search needs
-
 cell-start-requires-2 : tie.Need-cell-start-requires-2
 cell-start-requires-2 c κs = search needs
 
-xor-rotated-requires : tie.Need-xor-rotated-requires
-xor-rotated-requires c κs = search needs
+xor-both-requires : tie.Need-xor-both-requires
+xor-both-requires c κs = search needs
 
 same-length : tie.Need-same-length
 same-length c = search needs
@@ -33,8 +29,7 @@ write-visit-spec =
     tie.close
     (tie.spec
     cell-start-requires
-    xor-output-requires
     cell-start-requires-2
-    xor-rotated-requires
+    xor-both-requires
     same-length
     returns)

@@ -38,6 +38,7 @@ wander-requires c κs =
     let up = c .before .before .before .before .before .set-up in
     let n = visits-most (a .rows) (a .time) (start .pre .1) (start .pre .3) in (
       omega arith,
+      omega arith,
       omega (arith, up .ensures .0, prev1-lt (a .rows - 3)),
       omega (arith, up .kept .1 .0),
       omega (arith, product-most (a .rows * a .time) (2 + 2 * a .columns) 4177920 514 n (omega arith)),

@@ -1,5 +1,8 @@
 -- `recorded_refusal` meets its contract: the checks of the plain derivation, then that of the record. Assumes nothing.
-use mathlib.Core.Path.{sym, _∙_}
+use mathlib.Core.Path.{sym, ap, _∙_}
+use mathlib.Core.Bool.{cond}
+use Prim.Native.Nat.{ℕ}
+use lib.Dec.{ltb}
 use native.Mathlib.Omega.{arith}
 use borrow.Author.Needs.{needs}
 use Rattle.refusals.specs.Checks.{plainChecks, recordedChecks, recordCheck}
@@ -10,6 +13,7 @@ use Rattle.refusals.proofs.recorded_refusal.Reads as reads
 use Rattle.refusals.proofs.recorded_refusal.Lts as lts
 use Rattle.refusals.proofs.first_of.Reads as first-of-reads
 use Rattle.refusals.proofs.plain_refusal.Reads as plain-refusal-reads
+use Rattle.refusals.proofs.record_words.Reads as record-words-reads
 
 plain-refusal-requires : tie.Need-plain-refusal-requires
 plain-refusal-requires c κs = search needs
@@ -20,29 +24,18 @@ returns c =
     let a = c .before .before .args in
     more-refuse (plainChecks (a .key) (a .password) (a .salt) (a .time) (a .rows) (a .columns) (a .matrix)) (recordCheck (a .time) (a .rows) (a .columns) (a .«record»)) _ (c .before .plain-refusal .ensures) (c .if1 .taken)
 
-mul-first-of : tie.Need-mul-first-of
-mul-first-of c =
+-- what the checks of the plain derivation leave
+mul-record-words : tie.Need-mul-record-words
+mul-record-words c =
     let a = c .before .before .args in
     let bounds = plain-bounds (a .key) (a .password) (a .salt) (a .time) (a .rows) (a .columns) (a .matrix) (sym (c .before .plain-refusal .ensures) ∙ c .if1 .left) .costs in
     omega (arith, visits-most (a .time) (a .rows) (bounds .time-most) (bounds .rows-most))
 
-mul-first-of-2 : tie.Need-mul-first-of-2
-mul-first-of-2 c =
+record-words-requires : tie.Need-record-words-requires
+record-words-requires c κs =
     let a = c .before .before .args in
     let bounds = plain-bounds (a .key) (a .password) (a .salt) (a .time) (a .rows) (a .columns) (a .matrix) (sym (c .before .plain-refusal .ensures) ∙ c .if1 .left) .costs in
-    omega arith
-
-add-first-of : tie.Need-add-first-of
-add-first-of c =
-    let a = c .before .before .args in
-    let bounds = plain-bounds (a .key) (a .password) (a .salt) (a .time) (a .rows) (a .columns) (a .matrix) (sym (c .before .plain-refusal .ensures) ∙ c .if1 .left) .costs in
-    omega arith
-
-mul-first-of-3 : tie.Need-mul-first-of-3
-mul-first-of-3 c =
-    let a = c .before .before .args in
-    let bounds = plain-bounds (a .key) (a .password) (a .salt) (a .time) (a .rows) (a .columns) (a .matrix) (sym (c .before .plain-refusal .ensures) ∙ c .if1 .left) .costs in
-    omega (arith, record-most (a .time) (a .rows) (a .columns) (bounds .time-most) (bounds .rows-most) (bounds .columns-most))
+    (bounds .columns-most, omega (arith, record-most (a .time) (a .rows) (a .columns) (bounds .time-most) (bounds .rows-most) (bounds .columns-most)))
 
 first-of-requires : tie.Need-first-of-requires
 first-of-requires c κs = search needs
@@ -50,8 +43,9 @@ first-of-requires c κs = search needs
 returns-2 : tie.Need-returns-2
 unfolding recordedChecks
 returns-2 c =
-    let a = c .before .before .before .args in
-    more-pass (plainChecks (a .key) (a .password) (a .salt) (a .time) (a .rows) (a .columns) (a .matrix)) (recordCheck (a .time) (a .rows) (a .columns) (a .«record»)) _ (c .before .before .plain-refusal .ensures) (plain-numbered (a .key) (a .password) (a .salt) (a .time) (a .rows) (a .columns) (a .matrix)) (c .before .if1 .left) _ (c .first-of .ensures)
+    let a = c .before .before .before .before .args in
+    more-pass (plainChecks (a .key) (a .password) (a .salt) (a .time) (a .rows) (a .columns) (a .matrix)) (recordCheck (a .time) (a .rows) (a .columns) (a .«record»)) _ (c .before .before .before .plain-refusal .ensures) (plain-numbered (a .key) (a .password) (a .salt) (a .time) (a .rows) (a .columns) (a .matrix)) (c .before .before .if1 .left) _
+    (c .first-of .ensures ∙ ap (λ (n : ℕ). cond (ltb (a .«record») n) 8 0) (c .before .record-words .ensures))
 
 pub recorded-refusal-spec : {M : Type 1} → statement M
 recorded-refusal-spec =
@@ -59,9 +53,7 @@ recorded-refusal-spec =
     (tie.spec
     plain-refusal-requires
     returns
-    mul-first-of
-    mul-first-of-2
-    add-first-of
-    mul-first-of-3
+    mul-record-words
+    record-words-requires
     first-of-requires
     returns-2)

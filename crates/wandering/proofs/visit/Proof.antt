@@ -35,7 +35,8 @@ unfolding pickedRows
 visit-row-requires c κs =
     let start = c .before .before .before .before .before .before .before .before .before .before .before in
     let r = c .before .before .before .before .before .before .before .pick-rows in (
-      within (start .args .rows) (start .args .columns) (length (now (start .args .m))) (start .pre .2) (r .result) (r .ensures .0) (r .ensures .1)
+      start .pre .0,
+      within (start .args .rows) (start .args .columns) (length (now (start .args .m))) (start .pre .3) (r .result) (r .ensures .0) (r .ensures .1)
           (omega (arith, ap (λ (q : Rows). q .prev0 .0) (r .ensures .2))) (omega (arith, ap (λ (q : Rows). q .prev1 .0) (r .ensures .2))),
       omega arith,
     )

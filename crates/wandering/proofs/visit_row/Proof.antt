@@ -1,6 +1,7 @@
--- `visit_row` meets its contract. The loop's invariant: work and record are those of the first col columns, each a reduced call. Assumes nothing.
+-- `visit_row` meets its contract. The loop's invariant: work and record are those of the first col columns, each a reduced call, and p are the
+-- picks of the next. Assumes nothing.
 use mathlib.Core.Path.{_≡_, refl, sym, ap, subst, _∙_}
-use Prim.Native.Nat.{ℕ, _≤_, _-_}
+use Prim.Native.Nat.{ℕ, _≤_, _<_, _-_}
 use native.Mathlib.Omega.{arith}
 use lib.ListN.{length}
 use Rattle.lists.specs.Zip.{zipAt}
@@ -10,6 +11,7 @@ use Rattle.columns.specs.Bounds.{Within}
 use Rattle.columns.specs.Settings.{profile, Work, work}
 use Rattle.columns.specs.declared.Picks.{Picks}
 use Rattle.columns.specs.Columns.{picks, visitColumn}
+use Rattle.columns.proofs.ColumnSteps.{visit-column-done}
 use Rattle.wandering.specs.Visits.{visitStep, visitColumns, columnPicks}
 use Rattle.wandering.specs.Encoding.{encodePicks}
 use Rattle.wandering.proofs.Recording.{column-noted}
@@ -17,27 +19,24 @@ use Rattle.wandering.proofs.visit_row.Statement.{statement}
 use Rattle.wandering.proofs.visit_row.Tie as tie
 use Rattle.wandering.proofs.visit_row.Reads as reads
 use Rattle.wandering.proofs.visit_row.Lts as lts
+use Rattle.columns.proofs.pick_columns.Reads as pick-columns-reads
 use Rattle.columns.proofs.visit_column.Reads as visit-column-reads
 use Rattle.wandering.proofs.note_pair.Reads as note-pair-reads
 
 abbrev Inv-loop : tie.InvT-loop
-Inv-loop s₀ m₀ rows columns record₀ at calls₀ col₀ s m «record» calls col = (col ≤ columns) × (calls ≡ col) × (length m ≡ length m₀) × (length «record» ≡ length record₀) × (work s m ≡ visitColumns profile columns rows col (work s₀ m₀)) × («record» ≡ zipAt (λ (x y : ℕ). y) at record₀ (encodePicks (columnPicks profile columns rows col (work s₀ m₀))))
+Inv-loop s m₀ rows columns record₀ at state₀ p₀ calls₀ col₀ m «record» state p calls col = (col ≤ columns) × (calls ≡ col) × (length m ≡ length m₀) × (length «record» ≡ length record₀) × (work state m ≡ visitColumns profile columns rows col (work s m₀)) × («record» ≡ zipAt (λ (x y : ℕ). y) at record₀ (encodePicks (columnPicks profile columns rows col (work s m₀)))) × (p ≡ picks profile columns state) × (p .col0 .0 < columns) × (p .col1 .0 < columns)
 
 abbrev μ-loop : tie.MeasureT-loop
-μ-loop s₀ m₀ rows columns record₀ at calls₀ col₀ s m «record» calls col = columns - col
+μ-loop s m₀ rows columns record₀ at state₀ p₀ calls₀ col₀ m «record» state p calls col = columns - col
+
+pick-columns-requires : tie.Need-pick-columns-requires Inv-loop μ-loop
+pick-columns-requires c κs = omega arith
 
 loop-holds : tie.Need-loop-holds Inv-loop μ-loop
 unfolding visitColumns columnPicks encodePicks
-loop-holds c = (omega arith, refl, refl, refl, loop-none _ _, sym (zipAt-none _ _ _))
-
-visit-column-requires : tie.Need-visit-column-requires Inv-loop μ-loop
-visit-column-requires c κs =
-    let head = c .before .before .before in
-    let start = head .before .before .before in
-    (omega arith, subst (Within (start .args .columns) (start .args .rows)) (sym (head .loop .inv .2)) (start .pre .0))
-
-add-calls : tie.Need-add-calls Inv-loop μ-loop
-add-calls c = omega arith
+loop-holds c =
+    let p = c .pick-columns .ensures in
+    (omega arith, refl, refl, refl, loop-none _ _, sym (zipAt-none _ _ _), p .0, p .1, p .2)
 
 mul-note-pair : tie.Need-mul-note-pair Inv-loop μ-loop
 mul-note-pair c = omega arith
@@ -48,6 +47,15 @@ add-note-pair c = omega arith
 note-pair-requires : tie.Need-note-pair-requires Inv-loop μ-loop
 note-pair-requires c κs = omega arith
 
+visit-column-requires : tie.Need-visit-column-requires Inv-loop μ-loop
+visit-column-requires c κs =
+    let head = c .before .before .before .before .before .before .before in
+    let start = head .before .before .before .before .before .before in
+    (omega arith, head .loop .inv .7, head .loop .inv .8, subst (Within (start .args .columns) (start .args .rows)) (sym (head .loop .inv .2)) (start .pre .1))
+
+add-calls : tie.Need-add-calls Inv-loop μ-loop
+add-calls c = omega arith
+
 add-col : tie.Need-add-col Inv-loop μ-loop
 add-col c = omega arith
 
@@ -57,21 +65,24 @@ loop-less c = omega arith
 loop-again : tie.Need-loop-again Inv-loop μ-loop
 unfolding visitColumns visitStep
 loop-again c =
-    let noted = c .before .before in
-    let visited = c .before .before .before .before .before .before in
+    let visited = c .before .before .visit-column in
+    let noted = c .before .before .before .before .before .before .before .note-pair in
     let head = c .before .before .before .before .before .before .before .before .before .before in
-    let a = head .before .before .before .args in
-    let v = head .loop in
-    let p = visited .visit-column .ensures .0 in (
-      omega arith,
-      omega arith,
-      visited .visit-column .kept .1 .0 ∙ v .inv .2,
-      noted .note-pair .kept .0 ∙ v .inv .3,
+    let a = head .before .before .before .before .before .before .args in
+    let v = head .loop in (
+      omega (arith, c .before .before .before .before .before .before .before .before .before .loop-test .taken),
+      omega (arith, v .inv .1),
+      visited .kept .1 .0 ∙ v .inv .2,
+      noted .kept .0 ∙ v .inv .3,
       loop-more (visitStep profile (a .columns) (a .rows)) _ _ _ _ (v .inv .4)
-          (visited .visit-column .ensures .1 ∙ ap (λ (q : Picks). visitColumn profile (a .columns) (a .rows) (v .col) q (work (v .s) (v .m))) p),
-      noted .note-pair .ensures
-          ∙ column-noted profile (a .columns) (a .rows) _ (v .col) (a .at) _ (v .«record») (visited .visit-column .result) (v .inv .5)
-          (p ∙ ap (λ (w : Work). picks profile (a .columns) (w .state)) (v .inv .4)),
+          (visit-column-done (a .columns) (a .rows) (v .col) (v .p) (v .state) (v .m) _ _ (visited .ensures .3) (visited .ensures .4)
+          ∙ ap (λ (q : Picks). visitColumn profile (a .columns) (a .rows) (v .col) q (work (v .state) (v .m))) (v .inv .6)),
+      noted .ensures
+          ∙ column-noted profile (a .columns) (a .rows) _ (v .col) (a .at) _ (v .«record») (v .p) (v .inv .5)
+          (v .inv .6 ∙ ap (λ (w : Work). picks profile (a .columns) (w .state)) (v .inv .4)),
+      visited .ensures .0,
+      visited .ensures .1,
+      visited .ensures .2,
     )
 
 same-length : tie.Need-same-length Inv-loop μ-loop
@@ -82,7 +93,7 @@ same-length-2 c = c .before .loop .inv .3
 
 returns : tie.Need-returns Inv-loop μ-loop
 returns c =
-    let a = c .before .before .before .before .args in
+    let a = c .before .before .before .before .before .before .before .args in
     let v = c .before .loop in
     let at-end : v .col ≡ a .columns = omega arith in
     (omega arith, rw at-end at (v .inv .4), rw at-end at (v .inv .5))
@@ -93,12 +104,13 @@ visit-row-spec =
     (tie.spec
     Inv-loop
     μ-loop
+    pick-columns-requires
     loop-holds
-    visit-column-requires
-    add-calls
     mul-note-pair
     add-note-pair
     note-pair-requires
+    visit-column-requires
+    add-calls
     add-col
     loop-less
     loop-again

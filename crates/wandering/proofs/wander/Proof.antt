@@ -30,7 +30,7 @@ visit-requires c κs =
     let head = c .before .before .before .before in
     let start = head .before .before .before in
     let a = start .args in
-    (head .loop .inv .1, head .loop .inv .2, omega (arith, head .loop .inv .5, start .pre .2), omega (arith, row-before (head .loop .k) (a .n) (2 + 2 * a .columns) (omega arith)))
+    (start .pre .0, head .loop .inv .1, head .loop .inv .2, omega (arith, head .loop .inv .5, start .pre .3), omega (arith, row-before (head .loop .k) (a .n) (2 + 2 * a .columns) (omega arith)))
 
 add-calls : tie.Need-add-calls Inv-loop μ-loop
 add-calls c =
