@@ -3,9 +3,9 @@
 use crate::arguments::{Arguments, Source};
 use crate::failure::Failure;
 use crate::reading::{leave_out_newline, read_file};
-use crate::secret::Secret;
+use crate::secret::{wipe_stack, Secret};
 use crate::{hex, password};
-use lyra2::{Counts, Lengths, Parameters, Refusal, KEY_LENGTHS, SALT_LENGTHS};
+use lyra2::{Checked, Counts, Lengths, Parameters, Recorded, Refusal, KEY_LENGTHS, SALT_LENGTHS};
 use std::path::Path;
 
 /// What a derivation is made from, apart from the key length.
@@ -42,6 +42,33 @@ impl Input {
             salt: self.salt.len(),
         };
         lyra2::cost(lengths, self.parameters)
+    }
+
+    /// The plain derivation.
+    pub fn derive(&self, key: &mut [u8], matrix: &mut [u64]) -> Result<Counts, Refusal> {
+        let answer = lyra2::derive(&self.password, &self.salt, self.parameters, key, matrix);
+        wipe_stack();
+        answer
+    }
+
+    /// The recorded derivation.
+    pub fn derive_recorded(
+        &self,
+        key: &mut [u8],
+        matrix: &mut [u64],
+        record: &mut [u64],
+    ) -> Result<Recorded, Refusal> {
+        let (password, salt) = (&self.password, &self.salt);
+        let answer = lyra2::derive_recorded(password, salt, self.parameters, key, matrix, record);
+        wipe_stack();
+        answer
+    }
+
+    /// The check.
+    pub fn check(&self, stored: &[u8], matrix: &mut [u64]) -> Result<Checked, Refusal> {
+        let answer = lyra2::check(&self.password, &self.salt, self.parameters, stored, matrix);
+        wipe_stack();
+        answer
     }
 }
 

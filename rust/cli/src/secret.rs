@@ -1,4 +1,4 @@
-//! Buffers that are overwritten when they are dropped.
+//! Buffers that are overwritten when they are dropped, and overwriting the stack.
 //!
 //! This is the best that std has: the zeros are shown to `black_box`, so that the compiler keeps the stores. Copies
 //! that the system makes, in a pipe or by swapping, are out of reach.
@@ -6,6 +6,16 @@
 use crate::failure::Failure;
 use std::hint::black_box;
 use std::ops::{Deref, DerefMut};
+
+/// More than the library's calls use of the stack.
+const STACK_BYTES: usize = 1 << 14;
+
+/// Overwrites the stack below the caller, where a call that has ended leaves what it worked on: the library's last
+/// input block, which may be the password, and the state, which gives the key.
+#[inline(never)]
+pub fn wipe_stack() {
+    black_box(&mut [0u8; STACK_BYTES]);
+}
 
 /// A buffer that never grows, since growing would leave a copy behind, and that ends as zeros.
 pub struct Secret<T: Copy + Default> {

@@ -42,13 +42,7 @@ fn run(arguments: &Arguments) -> Result<Outcome, Failure> {
     let input = Input::read(arguments)?;
     input.ask_cost(stored.len())?;
     let mut matrix = Secret::zeros("matrix", input.parameters.matrix_words())?;
-    let checked = lyra2::check(
-        &input.password,
-        &input.salt,
-        input.parameters,
-        &stored,
-        &mut matrix,
-    )?;
+    let checked = input.check(&stored, &mut matrix)?;
     let word = if checked.same { "yes\n" } else { "no\n" };
     Ok(Outcome::answer(checked.same, word.to_string()))
 }

@@ -40,12 +40,6 @@ fn run(arguments: &Arguments) -> Result<Outcome, Failure> {
     input.ask_cost(key_length)?;
     let mut key = Secret::zeros("key", Some(key_length))?;
     let mut matrix = Secret::zeros("matrix", input.parameters.matrix_words())?;
-    lyra2::derive(
-        &input.password,
-        &input.salt,
-        input.parameters,
-        &mut key,
-        &mut matrix,
-    )?;
+    input.derive(&mut key, &mut matrix)?;
     Ok(Outcome::result(hex::line(&key)?))
 }

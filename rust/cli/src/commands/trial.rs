@@ -54,14 +54,7 @@ fn run(arguments: &Arguments) -> Result<Outcome, Failure> {
     let mut record = Secret::zeros("record", input.parameters.record_words())?;
     // Opened before the work, which can take minutes, so that a wrong name is told at once.
     let file = create(path)?;
-    let recorded = lyra2::derive_recorded(
-        &input.password,
-        &input.salt,
-        input.parameters,
-        &mut key,
-        &mut matrix,
-        &mut record,
-    )?;
+    let recorded = input.derive_recorded(&mut key, &mut matrix, &mut record)?;
     let header = Header {
         parameters: input.parameters,
         key_length,
