@@ -48,12 +48,12 @@ fn run_on(command: &str, given: &Given, number: u64, others: &[String]) -> Run {
     ]
     .concat();
     arguments.extend_from_slice(others);
-    if number % 2 == 0 {
+    if number.is_multiple_of(2) {
         arguments.push(format!("--password-file={}", password_file.name()));
     } else {
         password.push(b'\n');
     }
-    if number % 3 == 0 || salt.len() > 100 {
+    if number.is_multiple_of(3) || salt.len() > 100 {
         arguments.push(format!("--salt-file={}", salt_file.name()));
     } else {
         arguments.push(format!("--salt={}", hex(&salt)));
