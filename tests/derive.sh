@@ -38,7 +38,7 @@ same 'status of a missing file' 2 "$(status "$derive" check $costs --key-file mi
 # ---- a terminal
 program=$root/rust/target/release/lyra2
 at_terminal() { # COMMAND, which reads what is typed from standard input
-    script -qec "$1" /dev/null | tr -d '\r'
+    timeout 20 script -qec "$1" /dev/null | tr -d '\r'
 }
 typed=$(printf 'correct horse battery staple\nnext line\n' | at_terminal "$program derive $costs --key-length 32; head -n 1")
 grep -qF 'Password (it will be seen): ' <<<"$typed" || { echo "no prompt: $typed"; exit 1; }

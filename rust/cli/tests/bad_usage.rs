@@ -73,6 +73,10 @@ fn options() {
         "derive --salt --rows 3",
         "lyra2 derive: --salt has no value",
     );
+}
+
+#[test]
+fn options_that_exclude_each_other_or_are_missing() {
     says(
         &format!("{DERIVE} --salt-file x"),
         "lyra2 derive: --salt and --salt-file are both given",

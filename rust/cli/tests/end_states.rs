@@ -413,6 +413,11 @@ fn numbers_outside_their_limits() {
     ] {
         assert_eq!(fault(&other.write(), &good), words);
     }
+}
+
+#[test]
+fn a_file_with_a_byte_too_many() {
+    let good = trial(b"pass");
     let longer = [good.bytes(), vec![0]].concat();
     let words = format!(
         "longer than the {} bytes that its header asks for",

@@ -8,8 +8,8 @@ mod common;
 use common::{command, hex, words, TemporaryFile};
 use lyra2_reference::{derive, Inputs};
 use std::fs::File;
-use std::io::{Read, Seek, SeekFrom, Write};
-use std::process::Stdio;
+use std::io::{PipeReader, Read, Seek, SeekFrom, Write};
+use std::process::{Child, Stdio};
 use std::time::{Duration, Instant};
 
 const PASSWORD: &[u8] = b"a password to search for";
@@ -57,8 +57,8 @@ fn due() -> ([u8; 64], Vec<u8>) {
     (key, bytes.collect())
 }
 
-/// Runs `derive` into a full pipe and returns what is left once the key's text is found: the names of traces that stay.
-fn traces_left(options: &str, input: &[u8]) -> Vec<&'static str> {
+/// Starts `derive` into a full pipe, which is full as long as its reader is kept.
+fn start(options: &str, input: &[u8]) -> (Child, PipeReader) {
     let (reader, mut writer) = std::io::pipe().expect("a pipe");
     writer.write_all(&[0; PIPE_BYTES]).expect("an empty pipe");
     let costs = "--time 1 --rows 16 --columns 4 --key-length 64";
@@ -71,8 +71,12 @@ fn traces_left(options: &str, input: &[u8]) -> Vec<&'static str> {
     let mut child = program.spawn().expect("the program starts");
     let mut pipe = child.stdin.take().expect("a pipe");
     pipe.write_all(input).expect("the program reads");
-    drop(pipe);
+    (child, reader)
+}
 
+/// The names of the traces that stay in the program's memory while it holds the key's text.
+fn traces_left(options: &str, input: &[u8]) -> Vec<&'static str> {
+    let (mut child, reader) = start(options, input);
     let (key, matrix) = due();
     let text = hex(&key);
     // The library holds what it works on in words, so a part of the password or the key is searched for.

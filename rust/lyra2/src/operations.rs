@@ -118,7 +118,7 @@ pub fn derive_recorded(
 
 /// The check: derives a key as long as the stored one and tells whether they are the same.
 ///
-/// The comparison looks at every byte, wherever the keys differ. The matrix is left as [`derive`] leaves it.
+/// The comparison looks at every byte, wherever the keys differ. The matrix is left as [`derive()`] leaves it.
 /// Refusals 1 to 7.
 pub fn check(
     password: &[u8],
