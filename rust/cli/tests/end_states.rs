@@ -14,9 +14,18 @@ const C: u64 = 3;
 const KEY_LENGTH: u64 = 20;
 
 fn trial(password: &[u8]) -> TemporaryFile {
+    trial_of(T, R, C, password)
+}
+
+/// The file of the smallest matrix, for tests that go through its bytes.
+fn small_trial() -> TemporaryFile {
+    trial_of(1, 3, 1, b"pass")
+}
+
+fn trial_of(t: u64, r: u64, c: u64, password: &[u8]) -> TemporaryFile {
     let file = TemporaryFile::new();
     let line = format!(
-        "trial --salt {} --time {T} --rows {R} --columns {C} --key-length {KEY_LENGTH} --output {}",
+        "trial --salt {} --time {t} --rows {r} --columns {c} --key-length {KEY_LENGTH} --output {}",
         hex(b"saltsalt"),
         file.name()
     );
@@ -308,7 +317,7 @@ fn fault(bytes: &[u8], good: &TemporaryFile) -> String {
 
 #[test]
 fn files_cut_short_at_every_length() {
-    let good = trial(b"pass");
+    let good = small_trial();
     let bytes = good.bytes();
     let whole = format!(
         "shorter than the {} bytes that its header asks for",
@@ -325,7 +334,7 @@ fn files_cut_short_at_every_length() {
 
 #[test]
 fn files_with_a_changed_byte() {
-    let good = trial(b"pass");
+    let good = small_trial();
     let mut random = Random::new(11);
     for place in 0..good.bytes().len() {
         let mut bytes = good.bytes();
