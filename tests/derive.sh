@@ -40,11 +40,11 @@ program=$root/rust/target/release/lyra2
 at_terminal() { # COMMAND, which reads what is typed from standard input
     timeout 20 script -qec "$1" /dev/null | tr -d '\r'
 }
-typed=$(printf 'correct horse battery staple\nnext line\n' | at_terminal "$program derive $costs --key-length 32; head -n 1")
+typed=$(printf 'correct horse battery staple\nnext line\n' | at_terminal "'$program' derive $costs --key-length 32; head -n 1")
 grep -qF 'Password (it will be seen): ' <<<"$typed" || { echo "no prompt: $typed"; exit 1; }
 grep -qF "$shown" <<<"$typed" || { echo "another key at a terminal: $typed"; exit 1; }
 same 'the line after the password' 'next line' "$(tail -n 1 <<<"$typed")"
 # A line that is too long is read to its end, so that the shell gets nothing of it.
-long=$({ head -c 2000 /dev/zero | tr '\0' p; printf '\nnext line\n'; } | at_terminal "$program derive $costs --key-length 32; head -n 1")
+long=$({ head -c 2000 /dev/zero | tr '\0' p; printf '\nnext line\n'; } | at_terminal "'$program' derive $costs --key-length 32; head -n 1")
 grep -qF 'lyra2 derive: refused 2: ' <<<"$long" || { echo "a long line is taken: $long"; exit 1; }
 same 'the line after a long one' 'next line' "$(tail -n 1 <<<"$long")"

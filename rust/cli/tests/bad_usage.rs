@@ -2,7 +2,7 @@
 
 mod common;
 
-use common::{command, lyra2, words, TemporaryFile};
+use common::{command, limited, lyra2, words, TemporaryFile};
 use std::io::Write;
 use std::process::Stdio;
 
@@ -203,7 +203,7 @@ fn files() {
     );
     let salt_file = DERIVE.replace("--salt 0011223344556677", &format!("--salt-file {name}"));
     says(&salt_file, &format!("lyra2 derive: {no_file}"));
-    let folder = env!("CARGO_TARGET_TMPDIR");
+    let folder = ".";
     let is_folder = format!("{folder:?}: Is a directory (os error 21)");
     says(
         &format!("{DERIVE} --password-file {folder}"),
@@ -260,16 +260,11 @@ fn a_refusal_comes_before_any_memory_is_set_aside() {
 /// A limit on the process' memory, since the machine may have enough for any matrix.
 #[test]
 fn memory_that_is_not_there() {
-    let program = env!("CARGO_BIN_EXE_lyra2");
     let large = DERIVE
         .replace("--rows 3", "--rows 16384")
         .replace("--columns 1", "--columns 256");
-    let script = format!("ulimit -v 200000 && exec {program} {large}");
-    let ended = std::process::Command::new("sh")
-        .args(["-c", &script])
-        .stdin(Stdio::null())
-        .output()
-        .expect("a shell");
+    let mut program = limited(200_000, &large);
+    let ended = program.stdin(Stdio::null()).output().expect("a shell");
     let line = "lyra2 derive: no memory for the matrix of 402653184 bytes\n";
     assert_eq!(String::from_utf8_lossy(&ended.stderr), line);
     assert_eq!(ended.status.code(), Some(2));

@@ -3,7 +3,7 @@
 mod common;
 
 use common::end_state::EndState;
-use common::{hex, lyra2, words, Run, TemporaryFile};
+use common::{hex, limited, lyra2, words, Run, TemporaryFile};
 use lyra2_reference::vectors::random::Random;
 use lyra2_reference::{derive_recorded, Inputs};
 
@@ -114,7 +114,7 @@ fn a_new_file_is_its_owners_alone() {
     use std::os::unix::fs::PermissionsExt;
     let file = trial(b"pass");
     let mode = file
-        .0
+        .path()
         .metadata()
         .expect("the file is there")
         .permissions()
@@ -445,11 +445,8 @@ fn a_large_header_asks_for_no_memory() {
         ..due(b"pass")
     };
     let file = TemporaryFile::holding(&end.write());
-    let (program, name) = (env!("CARGO_BIN_EXE_lyra2"), file.name());
-    let script = format!("ulimit -v 100000 && exec {program} compare {name} {name}");
-    let ended = std::process::Command::new("sh")
-        .args(["-c", &script])
-        .output();
+    let name = file.name();
+    let ended = limited(100_000, &format!("compare {name} {name}")).output();
     let ended = ended.expect("a shell");
     let bytes = 8 * (9 + 16 + 12 * 16_384 * 256 + 16_384 * 255 * 514 + 1u64);
     let words = format!("shorter than the {bytes} bytes that its header asks for");

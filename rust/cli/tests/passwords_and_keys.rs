@@ -59,6 +59,8 @@ fn a_password_file_is_taken_as_it_is() {
         let options = format!("--password-file {}", file.name());
         let found = derived(&options, b"not this").result();
         assert_eq!(found, due(password, SALT, 32), "{password:?}");
+        let found = derived("--password-file /dev/stdin", password).result();
+        assert_eq!(found, due(password, SALT, 32), "{password:?}");
     }
 }
 

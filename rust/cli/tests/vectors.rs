@@ -112,7 +112,7 @@ fn recorded_derivations() {
         let output = format!("--output={}", file.name());
         let run = run_on("trial", given, case.number, &[length.clone(), output]);
         if is_refused(&run, &case.answer, case.number) {
-            assert!(!file.0.exists(), "case {}", case.number);
+            assert!(!file.path().exists(), "case {}", case.number);
             continue;
         }
         run.result();

@@ -16,8 +16,23 @@ pub struct Run {
     pub error: String,
 }
 
+/// The folder that the program runs in, so that the names of its files are short and have no spaces.
+const FOLDER: &str = env!("CARGO_TARGET_TMPDIR");
+
 pub fn command() -> Command {
-    Command::new(env!("CARGO_BIN_EXE_lyra2"))
+    let mut command = Command::new(env!("CARGO_BIN_EXE_lyra2"));
+    command.current_dir(FOLDER);
+    command
+}
+
+/// The program with little memory to be had, in units of 1024 bytes.
+pub fn limited(memory: u32, arguments: &str) -> Command {
+    let mut command = Command::new("sh");
+    let script = format!("ulimit -v {memory} && exec \"$0\" {arguments}");
+    command
+        .args(["-c", &script, env!("CARGO_BIN_EXE_lyra2")])
+        .current_dir(FOLDER);
+    command
 }
 
 /// Runs the program with these arguments and this standard input.
@@ -66,8 +81,10 @@ impl Run {
     }
 }
 
-/// A file of this test's own, removed when dropped.
-pub struct TemporaryFile(pub PathBuf);
+/// A file of this test's own in the program's folder, removed when dropped.
+pub struct TemporaryFile {
+    name: String,
+}
 
 impl TemporaryFile {
     /// A name that no file has yet.
@@ -75,27 +92,32 @@ impl TemporaryFile {
         static COUNT: AtomicU64 = AtomicU64::new(0);
         let count = COUNT.fetch_add(1, Ordering::Relaxed);
         let name = format!("lyra2-{}-{count}", std::process::id());
-        TemporaryFile(PathBuf::from(env!("CARGO_TARGET_TMPDIR")).join(name))
+        TemporaryFile { name }
     }
 
     pub fn holding(bytes: &[u8]) -> TemporaryFile {
         let file = TemporaryFile::new();
-        std::fs::write(&file.0, bytes).expect("the target folder can be written");
+        std::fs::write(file.path(), bytes).expect("the target folder can be written");
         file
     }
 
+    /// Its name in the program's folder.
     pub fn name(&self) -> &str {
-        self.0.to_str().expect("the target folder's name is text")
+        &self.name
+    }
+
+    pub fn path(&self) -> PathBuf {
+        PathBuf::from(FOLDER).join(&self.name)
     }
 
     pub fn bytes(&self) -> Vec<u8> {
-        std::fs::read(&self.0).expect("the file is there")
+        std::fs::read(self.path()).expect("the file is there")
     }
 }
 
 impl Drop for TemporaryFile {
     fn drop(&mut self) {
-        let _ = std::fs::remove_file(&self.0);
+        let _ = std::fs::remove_file(self.path());
     }
 }
 
