@@ -43,6 +43,7 @@ need() { # COMMAND PACKAGE
 
 need b2sum coreutils
 need cc gcc
+need script bsdutils
 command -v rt >/dev/null 2>&1 || { echo "rt, of the Rattle kit, is missing"; exit 2; }
 command -v cargo >/dev/null 2>&1 || { echo "cargo is missing"; exit 2; }
 

@@ -1,5 +1,5 @@
 #!/usr/bin/env bash
-# The README's first command prints what the README shows, and the program turns other lengths of input away.
+# The permutation's script prints what the README shows, and the program turns other lengths of input away.
 set -eu
 cd "$(dirname "$0")/.."
 work=$(mktemp -d)

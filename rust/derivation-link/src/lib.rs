@@ -1,17 +1,14 @@
-//! The proved derivation, called through the static library of the crate `derivation_export`.
+//! The proved derivation beside the second program.
 //!
-//! [`library`] is the C interface with slices. [`Proved`] gives it the form that the vectors file and the
-//! second program share, and [`compare`] holds it against that program on random inputs.
+//! [`Proved`] gives the C interface the form that the vectors file and the second program share, and
+//! [`compare`] holds it against that program on random inputs.
 
-#![deny(unsafe_code)]
+#![forbid(unsafe_code)]
 #![warn(missing_docs)]
 
 pub mod compare;
 pub mod guarded;
-#[allow(unsafe_code)]
-pub mod library;
 
-use library::Costs;
 use lyra2_reference::vectors::Subject;
 use lyra2_reference::{Checked, Counts, Inputs, Parameters, Recorded, Refusal};
 
@@ -20,6 +17,34 @@ const BEFORE: u64 = 0xa5a5_a5a5_a5a5_a5a5;
 
 /// The proved library.
 pub struct Proved;
+
+/// A number as the library takes it.
+pub fn size(number: u64) -> usize {
+    usize::try_from(number).expect("the library is built for numbers of 64 bits")
+}
+
+/// The second program's inputs as the library takes them.
+pub fn input<'a>(inputs: &Inputs<'a>) -> lyra2_sys::Input<'a> {
+    lyra2_sys::Input {
+        password: inputs.password,
+        salt: inputs.salt,
+        time: size(inputs.t),
+        rows: size(inputs.r),
+        columns: size(inputs.c),
+    }
+}
+
+/// The second program's six numbers as the library takes them.
+pub fn sizes(given: &Parameters) -> lyra2_sys::Sizes {
+    lyra2_sys::Sizes {
+        key: size(given.key_len),
+        password: size(given.password_len),
+        salt: size(given.salt_len),
+        time: size(given.t),
+        rows: size(given.r),
+        columns: size(given.c),
+    }
+}
 
 impl Subject for Proved {
     fn derive_recorded(
@@ -30,7 +55,8 @@ impl Subject for Proved {
         record: &mut [u64],
     ) -> Option<Result<Recorded, Refusal>> {
         let (mut state, mut costs) = ([BEFORE; 16], [BEFORE; 3]);
-        let number = library::derive_recorded(inputs, key, matrix, record, &mut state, &mut costs);
+        let number =
+            lyra2_sys::derive_recorded(input(inputs), key, matrix, record, &mut state, &mut costs);
         if number != 0 {
             assert_eq!(state, [BEFORE; 16], "a refused call changed the state");
         }
@@ -44,7 +70,7 @@ impl Subject for Proved {
         matrix: &mut [u64],
     ) -> Result<Counts, Refusal> {
         let mut costs = [BEFORE; 3];
-        let number = library::derive(inputs, key, matrix, &mut costs);
+        let number = lyra2_sys::derive(input(inputs), key, matrix, &mut costs);
         counts(number, costs)
     }
 
@@ -56,7 +82,7 @@ impl Subject for Proved {
     ) -> Result<Checked, Refusal> {
         let mut costs = [BEFORE; 3];
         let mut same = BEFORE as u32;
-        let number = library::check(inputs, stored, matrix, &mut same, &mut costs);
+        let number = lyra2_sys::check(input(inputs), stored, matrix, &mut same, &mut costs);
         let kept = same == BEFORE as u32;
         assert_eq!(number != 0, kept, "the check answered {number} and {same}");
         let counts = counts(number, costs)?;
@@ -70,13 +96,13 @@ impl Subject for Proved {
 
     fn cost(&self, given: &Parameters) -> Result<Counts, Refusal> {
         let mut costs = [BEFORE; 3];
-        let number = library::cost(given, &mut costs);
+        let number = lyra2_sys::cost(sizes(given), &mut costs);
         counts(number, costs)
     }
 
     fn walk(&self, r: u64, row0: u64) -> Result<u64, Refusal> {
         let mut row1 = BEFORE as usize;
-        let number = library::walk(r, row0, &mut row1);
+        let number = lyra2_sys::walk(size(r), size(row0), &mut row1);
         if number != 0 {
             assert_eq!(row1, BEFORE as usize, "a refused question changed row1");
         }
@@ -94,7 +120,7 @@ fn accepted(number: u32) -> Result<(), Refusal> {
 }
 
 /// The counts of an accepted call; a refused one must not have touched them.
-fn counts(number: u32, costs: Costs) -> Result<Counts, Refusal> {
+fn counts(number: u32, costs: lyra2_sys::Counts) -> Result<Counts, Refusal> {
     if number != 0 {
         assert_eq!(costs, [BEFORE; 3], "a refused call changed the counts");
     }

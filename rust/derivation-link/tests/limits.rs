@@ -3,7 +3,7 @@
 //! The answers are those of the C interface, numbers and all, so the tests see the places that a refused
 //! call has to leave alone.
 
-use derivation_link::library;
+use derivation_link::{input, size, sizes};
 use lyra2_reference::vectors::{Reference, Subject};
 use lyra2_reference::{derive_recorded, Counts, Inputs, Parameters};
 
@@ -86,7 +86,14 @@ fn recorded(call: &Call, inputs: &Inputs) -> u32 {
     let (front, back) = places.split_at_mut(20);
     let state = front[2..].first_chunk_mut().expect("18 words are left");
     let spent = back.first_chunk_mut().expect("4 words are left");
-    let number = library::derive_recorded(inputs, &mut key, &mut matrix, &mut record, state, spent);
+    let number = lyra2_sys::derive_recorded(
+        input(inputs),
+        &mut key,
+        &mut matrix,
+        &mut record,
+        state,
+        spent,
+    );
     assert_eq!((&key, places), (&due.0, due_places), "{call:?}");
     assert!(matrix == due.1, "derive_recorded, matrix: {call:?}");
     assert!(record == due.2, "derive_recorded, record: {call:?}");
@@ -101,13 +108,13 @@ fn derived_and_checked(call: &Call, inputs: &Inputs) -> [u32; 2] {
 
     let (mut key, mut matrix) = (vec![BYTE; call.key], vec![WORD; call.matrix]);
     let mut spent = [WORD; 3];
-    let derived = library::derive(inputs, &mut key, &mut matrix, &mut spent);
+    let derived = lyra2_sys::derive(input(inputs), &mut key, &mut matrix, &mut spent);
     assert_eq!((&key, spent), (&due_key, due_costs), "{call:?}");
     assert!(matrix == due_matrix, "derive, matrix: {call:?}");
 
     let (mut same, mut spent) = (BYTE.into(), [WORD; 3]);
     matrix.fill(WORD);
-    let checked = library::check(inputs, &due_key, &mut matrix, &mut same, &mut spent);
+    let checked = lyra2_sys::check(input(inputs), &due_key, &mut matrix, &mut same, &mut spent);
     let due_same = due.map_or(BYTE.into(), |_| 1);
     assert_eq!((same, spent), (due_same, due_costs), "{call:?}");
     assert!(matrix == due_matrix, "check, matrix: {call:?}");
@@ -123,7 +130,7 @@ fn costs(counts: Counts) -> [u64; 3] {
 fn cost(given: &Parameters) -> u32 {
     let due = Reference.cost(given).map_or([WORD; 3], costs);
     let mut spent = [WORD; 3];
-    let number = library::cost(given, &mut spent);
+    let number = lyra2_sys::cost(sizes(given), &mut spent);
     assert_eq!(spent, due, "{given:?}");
     number
 }
@@ -299,7 +306,7 @@ fn cost_of_the_largest_numbers() {
 fn walk(r: u64, row0: u64) -> u32 {
     let due = Reference.walk(r, row0).unwrap_or(WORD);
     let mut row1 = WORD as usize;
-    let number = library::walk(r, row0, &mut row1);
+    let number = lyra2_sys::walk(size(r), size(row0), &mut row1);
     assert_eq!(row1 as u64, due, "R {r}, row0 {row0}");
     number
 }
@@ -332,7 +339,7 @@ fn every_setup_step_of_the_most_rows() {
     for line in lines.lines() {
         let (row0, due) = line.split_once(' ').expect("two numbers");
         let mut row1 = WORD as usize;
-        let number = library::walk(16_384, row0.parse().expect("a number"), &mut row1);
+        let number = lyra2_sys::walk(16_384, row0.parse().expect("a number"), &mut row1);
         assert_eq!((number, row1.to_string().as_str()), (0, due), "row0 {row0}");
     }
 }

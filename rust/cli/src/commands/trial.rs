@@ -1,0 +1,78 @@
+//! `lyra2 trial`: a recorded derivation, left in an end-state file.
+
+use super::Command;
+use crate::arguments::Arguments;
+use crate::end_state::{write, Header};
+use crate::failure::Failure;
+use crate::help;
+use crate::input::Input;
+use crate::outcome::Outcome;
+use crate::secret::Secret;
+use std::fs::{File, OpenOptions};
+use std::os::unix::fs::OpenOptionsExt;
+use std::path::Path;
+
+pub const COMMAND: Command = Command {
+    name: "trial",
+    summary: "run a recorded derivation and write its end state to a file",
+    options: &[
+        "--password-file",
+        "--salt",
+        "--salt-file",
+        "--time",
+        "--rows",
+        "--columns",
+        "--key-length",
+        "--output",
+    ],
+    operands: &[],
+    help: &[
+        "usage: lyra2 trial (--salt HEX | --salt-file FILE) --time T --rows R --columns C\n\
+         \x20                  --key-length N --output FILE [--password-file FILE]",
+        "Runs the recorded derivation, writes the state after its last visit, the used matrix and the used\n\
+         record to FILE, and prints the file's length and checksum. `lyra2 compare` compares two such\n\
+         files; docs/END-STATES.md describes them.",
+        "The file does not hold the password, but whoever has it can make the key: use a password that\n\
+         opens nothing. A new file is made readable for its owner alone; one that is there is replaced.",
+        "  --output FILE         the end-state file",
+        help::COSTS,
+        "  --key-length N        bytes of the key, 1 to 1024",
+        help::SALT,
+        help::PASSWORD,
+        help::STATUS,
+    ],
+    run,
+};
+
+fn run(arguments: &Arguments) -> Result<Outcome, Failure> {
+    let path = Path::new(arguments.required("--output")?);
+    let key_length = arguments.number("--key-length")?;
+    let input = Input::read(arguments)?;
+    input.ask_cost(key_length)?;
+    let mut key = Secret::zeros("key", Some(key_length))?;
+    let mut matrix = Secret::zeros("matrix", input.parameters.matrix_words())?;
+    let mut record = Secret::zeros("record", input.parameters.record_words())?;
+    // Opened before the work, which can take minutes, so that a wrong name is told at once.
+    let file = create(path)?;
+    let recorded = input.derive_recorded(&mut key, &mut matrix, &mut record)?;
+    let header = Header {
+        parameters: input.parameters,
+        key_length,
+        counts: recorded.counts,
+    };
+    drop((key, input));
+    let sum = write::write(file, &header, &recorded.state, &matrix, &record)
+        .map_err(|error| Failure::of_file(path, error))?;
+    let bytes = header.file_bytes();
+    Ok(Outcome::result(format!(
+        "{bytes} bytes, checksum {sum:016x}\n"
+    )))
+}
+
+fn create(path: &Path) -> Result<File, Failure> {
+    let mut options = OpenOptions::new();
+    options.write(true).create(true).truncate(true).mode(0o600);
+    options
+        .open(path)
+        .map_err(|error| Failure::of_file(path, error))
+}

@@ -1,0 +1,180 @@
+//! Comparing two end-state files.
+
+use super::read::Reader;
+use super::{Header, FIELDS};
+use crate::failure::Failure;
+use lyra2::{CELL_WORDS, STATE_WORDS};
+use std::fmt;
+
+/// What the comparison of a part comes to.
+enum Part {
+    Equal,
+    /// The first difference, in words.
+    Parts(String),
+    /// T, R or C differ, so that the words stand for other places.
+    NotCompared,
+}
+
+/// What the comparison of two files comes to.
+pub struct Comparison {
+    header: Part,
+    state: Part,
+    matrix: Part,
+    record: Part,
+}
+
+/// A place in a part, counted in words, and what the two files have there.
+struct Difference {
+    place: u64,
+    found: [u64; 2],
+}
+
+/// Compares two files to their ends, so that a damaged one is noticed wherever they part.
+pub fn compare(
+    (header, mut first): (Header, Reader),
+    (other, mut second): (Header, Reader),
+) -> Result<Comparison, Failure> {
+    let files = &mut [&mut first, &mut second];
+    let state = first_difference(files, STATE_WORDS as u64)?;
+    let columns = header.parameters.columns as u64;
+    let [matrix, record] = if header.parameters == other.parameters {
+        let matrix = first_difference(files, header.matrix_words())?;
+        let record = first_difference(files, header.record_words())?;
+        [
+            Part::of(matrix, |at| {
+                format!("{}: {}", cell_place(at.place, columns), at.hexadecimal())
+            }),
+            Part::of(record, |at| {
+                format!("{}: {}", visit_place(at.place, columns), at.decimal())
+            }),
+        ]
+    } else {
+        skip(files[0], &header)?;
+        skip(files[1], &other)?;
+        [Part::NotCompared, Part::NotCompared]
+    };
+    first.close()?;
+    second.close()?;
+    Ok(Comparison {
+        header: Part::of(header_difference(&header, &other), |at| {
+            format!("{}: {}", FIELDS[at.place as usize], at.decimal())
+        }),
+        state: Part::of(state, |at| {
+            format!("word {}: {}", at.place, at.hexadecimal())
+        }),
+        matrix,
+        record,
+    })
+}
+
+/// Reads so many words of both files and returns where they first differ.
+fn first_difference(
+    [first, second]: &mut [&mut Reader; 2],
+    words: u64,
+) -> Result<Option<Difference>, Failure> {
+    let mut difference = None;
+    for place in 0..words {
+        let found = [first.word()?, second.word()?];
+        if found[0] != found[1] && difference.is_none() {
+            difference = Some(Difference { place, found });
+        }
+    }
+    Ok(difference)
+}
+
+/// Reads matrix and record without a look at them.
+fn skip(file: &mut Reader, header: &Header) -> Result<(), Failure> {
+    for _ in 0..header.matrix_words() + header.record_words() {
+        file.word()?;
+    }
+    Ok(())
+}
+
+fn header_difference(header: &Header, other: &Header) -> Option<Difference> {
+    let pairs = (0..).zip(header.words().into_iter().zip(other.words()));
+    let mut differing = pairs.filter(|(_, (x, y))| x != y);
+    differing.next().map(|(place, (x, y))| Difference {
+        place,
+        found: [x, y],
+    })
+}
+
+/// The words for a word of the matrix.
+fn cell_place(place: u64, columns: u64) -> String {
+    let (cell, word) = (place / CELL_WORDS as u64, place % CELL_WORDS as u64);
+    let (row, column) = (cell / columns, cell % columns);
+    format!("row {row}, column {column}, word {word}")
+}
+
+/// The words for a word of the record.
+fn visit_place(place: u64, columns: u64) -> String {
+    let visit_words = 2 + 2 * columns;
+    let (visit, word) = (place / visit_words, place % visit_words);
+    match word {
+        0 | 1 => format!("visit {visit}, row{word}"),
+        _ => format!("visit {visit}, column {}, col{}", word / 2 - 1, word % 2),
+    }
+}
+
+impl Difference {
+    fn decimal(&self) -> String {
+        let [first, second] = self.found;
+        format!("{first} and {second}")
+    }
+
+    fn hexadecimal(&self) -> String {
+        let [first, second] = self.found;
+        format!("{first:016x} and {second:016x}")
+    }
+}
+
+impl Part {
+    fn of(difference: Option<Difference>, words: impl Fn(&Difference) -> String) -> Part {
+        difference.map_or(Part::Equal, |difference| Part::Parts(words(&difference)))
+    }
+}
+
+impl Comparison {
+    /// The parts in the order of the file.
+    fn parts(&self) -> [(&'static str, &Part); 4] {
+        [
+            ("header", &self.header),
+            ("state", &self.state),
+            ("matrix", &self.matrix),
+            ("record", &self.record),
+        ]
+    }
+
+    /// Whether the files have the same contents.
+    pub fn is_equal(&self) -> bool {
+        self.first().is_none()
+    }
+
+    /// The difference that is first in time, with the name of its part: the walk writes the record on its way
+    /// and leaves state and matrix at its end.
+    fn first(&self) -> Option<(&'static str, &str)> {
+        let [header, state, matrix, record] = self.parts();
+        let in_time = [header, record, state, matrix];
+        in_time.into_iter().find_map(|(name, part)| match part {
+            Part::Parts(words) => Some((name, words.as_str())),
+            Part::Equal | Part::NotCompared => None,
+        })
+    }
+}
+
+impl fmt::Display for Comparison {
+    fn fmt(&self, f: &mut fmt::Formatter<'_>) -> fmt::Result {
+        let Some((name, words)) = self.first() else {
+            return writeln!(f, "equal");
+        };
+        writeln!(f, "different, first in the {name}: {words}")?;
+        for (name, part) in self.parts() {
+            match part {
+                Part::Equal => writeln!(f, "{name}: equal")?,
+                Part::Parts(words) => writeln!(f, "{name}: parts at {words}")?,
+                Part::NotCompared => writeln!(f, "{name}: not compared, since T, R or C differ")?,
+            }
+        }
+        Ok(())
+    }
+}

@@ -1,0 +1,77 @@
+//! Buffers that are overwritten when they are dropped, and overwriting the stack.
+//!
+//! This is the best that std has: the zeros are shown to `black_box`, so that the compiler keeps the stores. Copies
+//! that the system makes, in a pipe or by swapping, are out of reach.
+
+use crate::failure::Failure;
+use std::hint::black_box;
+use std::ops::{Deref, DerefMut};
+
+/// More than the library's calls use of the stack.
+const STACK_BYTES: usize = 1 << 14;
+
+/// Overwrites the stack below the caller, where a call that has ended leaves what it worked on: the library's last
+/// input block, which may be the password, and the state, which gives the key.
+#[inline(never)]
+pub fn wipe_stack() {
+    black_box(&mut [0u8; STACK_BYTES]);
+}
+
+/// A buffer that never grows, since growing would leave a copy behind, and that ends as zeros.
+pub struct Secret<T: Copy + Default> {
+    places: Vec<T>,
+    used: usize,
+}
+
+impl<T: Copy + Default> Secret<T> {
+    /// Zeros; if the memory is not there the failure names what it was for.
+    pub fn zeros(what: &str, count: Option<usize>) -> Result<Secret<T>, Failure> {
+        let missing = || {
+            let size = count.and_then(|count| count.checked_mul(size_of::<T>()));
+            let bytes = size.map_or("too many".to_string(), |bytes| bytes.to_string());
+            Failure::Trouble(format!("no memory for the {what} of {bytes} bytes"))
+        };
+        let count = count.ok_or_else(missing)?;
+        let mut places = Vec::new();
+        places.try_reserve_exact(count).map_err(|_| missing())?;
+        places.resize(count, T::default());
+        Ok(Secret {
+            places,
+            used: count,
+        })
+    }
+
+    /// Leaves out everything from a place on. It is still wiped.
+    pub fn shorten(&mut self, used: usize) {
+        self.used = self.used.min(used);
+    }
+}
+
+impl From<String> for Secret<u8> {
+    fn from(text: String) -> Secret<u8> {
+        let places = text.into_bytes();
+        let used = places.len();
+        Secret { places, used }
+    }
+}
+
+impl<T: Copy + Default> Deref for Secret<T> {
+    type Target = [T];
+
+    fn deref(&self) -> &[T] {
+        &self.places[..self.used]
+    }
+}
+
+impl<T: Copy + Default> DerefMut for Secret<T> {
+    fn deref_mut(&mut self) -> &mut [T] {
+        &mut self.places[..self.used]
+    }
+}
+
+impl<T: Copy + Default> Drop for Secret<T> {
+    fn drop(&mut self) {
+        self.places.fill(T::default());
+        black_box(self.places.as_mut_slice());
+    }
+}

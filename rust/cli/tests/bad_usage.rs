@@ -1,0 +1,307 @@
+//! Commands that are asked wrongly: each gets one line that says what and where, and status 2.
+
+mod common;
+
+use common::{command, limited, lyra2, words, TemporaryFile};
+use std::io::Write;
+use std::process::Stdio;
+
+const DERIVE: &str = "derive --salt 0011223344556677 --time 1 --rows 3 --columns 1 --key-length 8";
+const CHECK: &str = "check --salt 0011223344556677 --time 1 --rows 3 --columns 1";
+const COST: &str = "cost --time 1 --rows 3 --columns 1 --key-length 8 --salt-length 8";
+
+/// A command line, cut at spaces, and what its line of failure has to say.
+#[track_caller]
+fn says(line: &str, due: &str) {
+    let found = lyra2(&words(line), b"pass").failure();
+    assert_eq!(found, due, "{line}");
+}
+
+#[test]
+fn commands() {
+    says("", "lyra2: no command; `lyra2 help` lists them");
+    says(
+        "deduce",
+        "lyra2: unknown command \"deduce\"; `lyra2 help` lists them",
+    );
+    says(
+        "--deduce",
+        "lyra2: unknown command \"--deduce\"; `lyra2 help` lists them",
+    );
+    says(
+        "Derive",
+        "lyra2: unknown command \"Derive\"; `lyra2 help` lists them",
+    );
+    says(
+        "help deduce",
+        "lyra2: unknown command \"deduce\"; `lyra2 help` lists them",
+    );
+    says("help derive check", "lyra2: help takes one command");
+}
+
+#[test]
+fn options() {
+    says(
+        &format!("{DERIVE} --colour red"),
+        "lyra2 derive: unknown option \"--colour\"",
+    );
+    says(
+        &format!("{DERIVE} --colour=red"),
+        "lyra2 derive: unknown option \"--colour\"",
+    );
+    says(
+        &format!("{DERIVE} -r 3"),
+        "lyra2 derive: unknown option \"-r\"",
+    );
+    says(
+        &format!("{DERIVE} --key 00"),
+        "lyra2 derive: unknown option \"--key\"",
+    );
+    says(
+        &format!("{DERIVE} --rows 3"),
+        "lyra2 derive: --rows is given twice",
+    );
+    says(
+        &format!("{DERIVE} --rows=4"),
+        "lyra2 derive: --rows is given twice",
+    );
+    says(
+        &format!("{DERIVE} --password-file"),
+        "lyra2 derive: --password-file has no value",
+    );
+    says(
+        "derive --salt --rows 3",
+        "lyra2 derive: --salt has no value",
+    );
+}
+
+#[test]
+fn options_that_exclude_each_other_or_are_missing() {
+    says(
+        &format!("{DERIVE} --salt-file x"),
+        "lyra2 derive: --salt and --salt-file are both given",
+    );
+    says(
+        &format!("{CHECK} --key 00 --key-file x"),
+        "lyra2 check: --key and --key-file are both given",
+    );
+    says(CHECK, "lyra2 check: --key or --key-file is missing");
+    says(
+        "derive --time 1 --rows 3 --columns 1 --key-length 8",
+        "lyra2 derive: --salt or --salt-file is missing",
+    );
+    says(COST, "lyra2 cost: --password-length is missing");
+    says(
+        &DERIVE.replace("derive", "trial"),
+        "lyra2 trial: --output is missing",
+    );
+    for option in ["--time 1", "--rows 3", "--columns 1", "--key-length 8"] {
+        let name = words(option)[0];
+        let line = DERIVE.replace(option, "");
+        says(&line, &format!("lyra2 derive: {name} is missing"));
+    }
+}
+
+#[test]
+fn operands() {
+    says(
+        &format!("{DERIVE} password"),
+        "lyra2 derive: an argument too many; derive takes options alone",
+    );
+    says(
+        &format!("{DERIVE} -- --help"),
+        "lyra2 derive: an argument too many; derive takes options alone",
+    );
+    says("walk", "lyra2 walk: R is missing");
+    says("walk 8", "lyra2 walk: ROW0 is missing");
+    says(
+        "walk 8 3 1",
+        "lyra2 walk: an argument too many; walk takes R ROW0",
+    );
+    says("compare one", "lyra2 compare: FILE2 is missing");
+}
+
+#[test]
+fn numbers() {
+    let not_a_number =
+        |text: &str| format!("lyra2 walk: R: {text:?} is not a number in decimal digits");
+    for text in ["+8", "8.0", "0x8", "8_0", "eight", "1e3", "٣"] {
+        says(&format!("walk {text} 3"), &not_a_number(text));
+    }
+    for text in ["", " 8", "8 ", "8\n"] {
+        let line = lyra2(&["walk", text, "3"], b"").failure();
+        assert_eq!(line, not_a_number(text));
+    }
+    says("walk -8 3", "lyra2 walk: unknown option \"-8\"");
+    says("walk -- -8 3", &not_a_number("-8"));
+    says(
+        "walk 8 18446744073709551616",
+        "lyra2 walk: ROW0: 18446744073709551616 has more than 64 bits",
+    );
+    says(
+        "walk 8 18446744073709551615",
+        "lyra2 walk: refused 9: row0 must be 3 to R-1",
+    );
+    let minus = DERIVE.replace("--rows 3", "--rows -3");
+    says(
+        &minus,
+        "lyra2 derive: --rows: \"-3\" is not a number in decimal digits",
+    );
+}
+
+#[test]
+fn hexadecimal() {
+    let salt = |text: &str| DERIVE.replace("0011223344556677", text);
+    says(
+        &salt("001122334455667"),
+        "lyra2 derive: --salt: an odd number of hexadecimal digits, 15; a byte has two",
+    );
+    says(
+        &salt("00112233g4556677"),
+        "lyra2 derive: --salt: character 9 is not a hexadecimal digit",
+    );
+    says(
+        &salt("0x11223344556677"),
+        "lyra2 derive: --salt: character 2 is not a hexadecimal digit",
+    );
+    says(
+        &format!("{CHECK} --key abc"),
+        "lyra2 check: --key: an odd number of hexadecimal digits, 3; a byte has two",
+    );
+    for (text, words) in [
+        (
+            "abc\n",
+            "an odd number of hexadecimal digits, 3; a byte has two",
+        ),
+        ("ab cd\n", "character 3 is not a hexadecimal digit"),
+        ("abcd\n\n", "character 5 is not a hexadecimal digit"),
+        ("abcd\r\n", "character 5 is not a hexadecimal digit"),
+        ("\u{feff}abcd", "character 1 is not a hexadecimal digit"),
+    ] {
+        let file = TemporaryFile::holding(text.as_bytes());
+        let line = format!("{CHECK} --key-file {}", file.name());
+        says(&line, &format!("lyra2 check: {:?}: {words}", file.name()));
+    }
+}
+
+#[test]
+fn files() {
+    let missing = TemporaryFile::new();
+    let name = missing.name();
+    let no_file = format!("{name:?}: No such file or directory (os error 2)");
+    says(
+        &format!("{DERIVE} --password-file {name}"),
+        &format!("lyra2 derive: {no_file}"),
+    );
+    says(
+        &format!("{CHECK} --key-file {name}"),
+        &format!("lyra2 check: {no_file}"),
+    );
+    says(
+        &format!("compare {name} {name}"),
+        &format!("lyra2 compare: {no_file}"),
+    );
+    let salt_file = DERIVE.replace("--salt 0011223344556677", &format!("--salt-file {name}"));
+    says(&salt_file, &format!("lyra2 derive: {no_file}"));
+    let folder = ".";
+    let is_folder = format!("{folder:?}: Is a directory (os error 21)");
+    says(
+        &format!("{DERIVE} --password-file {folder}"),
+        &format!("lyra2 derive: {is_folder}"),
+    );
+    let trial = DERIVE.replace("derive", "trial");
+    says(
+        &format!("{trial} --output {folder}"),
+        &format!("lyra2 trial: {is_folder}"),
+    );
+    let full = "lyra2 trial: \"/dev/full\": No space left on device (os error 28)";
+    says(&format!("{trial} --output /dev/full"), full);
+}
+
+/// A file's name is data: it may hold a newline or bytes that are no text, and the line stays one line.
+#[test]
+fn file_names_that_are_no_plain_text() {
+    use std::os::unix::ffi::OsStringExt;
+    for name in [&b"a\nb"[..], b"\xff\xfe", b"\x1b[31m"] {
+        let name = std::ffi::OsString::from_vec(name.to_vec());
+        let arguments = ["compare".into(), name.clone(), name];
+        assert!(lyra2(&arguments, b"").failure().contains("No such file"));
+    }
+    let odd_option = std::ffi::OsString::from_vec(b"--\xff".to_vec());
+    let line = lyra2(&["derive".into(), odd_option], b"").failure();
+    assert_eq!(line, "lyra2 derive: unknown option \"--\\xFF\"");
+}
+
+#[test]
+fn a_refusal_comes_before_any_memory_is_set_aside() {
+    let huge = "--time 255 --rows 18446744073709551615 --columns 18446744073709551615";
+    let line = format!("derive --salt 0011223344556677 --key-length 8 {huge}");
+    says(
+        &line,
+        "lyra2 derive: refused 5: the number of rows R must be 3 to 16384",
+    );
+    let line = format!("cost --key-length 8 --salt-length 8 --password-length 1 {huge}");
+    says(
+        &line,
+        "lyra2 cost: refused 5: the number of rows R must be 3 to 16384",
+    );
+    let zero = DERIVE.replace("--columns 1", "--columns 0");
+    says(
+        &zero,
+        "lyra2 derive: refused 6: the number of columns C must be 1 to 256",
+    );
+    let zero = DERIVE.replace("--time 1", "--time 256");
+    says(
+        &zero,
+        "lyra2 derive: refused 4: the time cost T must be 1 to 255",
+    );
+}
+
+/// A limit on the process' memory, since the machine may have enough for any matrix.
+#[test]
+fn memory_that_is_not_there() {
+    let large = DERIVE
+        .replace("--rows 3", "--rows 16384")
+        .replace("--columns 1", "--columns 256");
+    let mut program = limited(200_000, &large);
+    let ended = program.stdin(Stdio::null()).output().expect("a shell");
+    let line = "lyra2 derive: no memory for the matrix of 402653184 bytes\n";
+    assert_eq!(String::from_utf8_lossy(&ended.stderr), line);
+    assert_eq!(ended.status.code(), Some(2));
+}
+
+/// The program waits for the password while the reading end of its output is closed.
+#[test]
+fn an_output_that_nobody_reads() {
+    let mut child = command()
+        .args(words(DERIVE))
+        .stdin(Stdio::piped())
+        .stdout(Stdio::piped())
+        .stderr(Stdio::piped())
+        .spawn()
+        .expect("the program starts");
+    drop(child.stdout.take());
+    let mut input = child.stdin.take().expect("a pipe");
+    input.write_all(b"pass").expect("the program reads");
+    drop(input);
+    let ended = child.wait_with_output().expect("the program ends");
+    let line = "lyra2: standard output: Broken pipe (os error 32)\n";
+    assert_eq!(String::from_utf8_lossy(&ended.stderr), line);
+    assert_eq!(ended.status.code(), Some(2));
+}
+
+#[test]
+fn a_full_disk_and_no_standard_error() {
+    let full = || std::fs::File::create("/dev/full").expect("the device");
+    let mut derive = command();
+    derive
+        .args(words(DERIVE))
+        .stdin(Stdio::null())
+        .stdout(full());
+    let ended = derive.output().expect("the program ends");
+    assert_eq!(ended.status.code(), Some(2));
+    let line = "lyra2: standard output: No space left on device (os error 28)\n";
+    assert_eq!(String::from_utf8_lossy(&ended.stderr), line);
+    let status = command().arg("deduce").stderr(full()).status();
+    assert_eq!(status.expect("the program ends").code(), Some(2));
+}

@@ -1,0 +1,68 @@
+//! A second reader and writer of end-state files, made from docs/END-STATES.md.
+
+use lyra2_reference::vectors::checksum;
+
+/// The parts of an end-state file.
+#[derive(Clone, Debug, PartialEq, Eq)]
+pub struct EndState {
+    pub t: u64,
+    pub r: u64,
+    pub c: u64,
+    pub key_length: u64,
+    /// Full calls, reduced calls, rounds.
+    pub counts: [u64; 3],
+    pub state: Vec<u64>,
+    pub matrix: Vec<u64>,
+    pub record: Vec<u64>,
+}
+
+impl EndState {
+    /// The parts of a file that has to be in order.
+    pub fn read(file: &[u8]) -> EndState {
+        let (body, sum) = file.split_at(file.len() - 8);
+        assert_eq!(&body[..8], b"LYRA2END");
+        assert_eq!(sum, checksum::of_bytes(body.iter().copied()).to_le_bytes());
+        let mut words = body[8..]
+            .chunks(8)
+            .map(|bytes| u64::from_le_bytes(bytes.try_into().expect("whole words")));
+        let mut take = |count: u64| -> Vec<u64> {
+            let part: Vec<u64> = words.by_ref().take(count as usize).collect();
+            assert_eq!(part.len() as u64, count, "the file is too short");
+            part
+        };
+        let header = take(8);
+        let [1, t, r, c, key_length, full, reduced, rounds] = header[..] else {
+            panic!("version 1 is due: {header:?}");
+        };
+        let end_state = EndState {
+            t,
+            r,
+            c,
+            key_length,
+            counts: [full, reduced, rounds],
+            state: take(16),
+            matrix: take(12 * r * c),
+            record: take(r * t * (2 + 2 * c)),
+        };
+        assert_eq!(words.next(), None, "the file is too long");
+        end_state
+    }
+
+    /// The file, with a checksum that fits.
+    pub fn write(&self) -> Vec<u8> {
+        let EndState { t, r, c, .. } = *self;
+        let header = [1, t, r, c, self.key_length];
+        let parts = [
+            &header,
+            &self.counts[..],
+            &self.state,
+            &self.matrix,
+            &self.record,
+        ];
+        let words = parts.concat().into_iter().flat_map(u64::to_le_bytes);
+        let mut file: Vec<u8> = b"LYRA2END".iter().copied().chain(words).collect();
+        let sum = checksum::of_bytes(file.iter().copied());
+        file.extend(sum.to_le_bytes());
+        file
+    }
+}

@@ -1,0 +1,101 @@
+//! The cost in words, and the help.
+
+mod common;
+
+use common::{lyra2, words};
+
+const COMMANDS: [&str; 6] = ["derive", "check", "cost", "walk", "trial", "compare"];
+
+fn cost(time: usize, rows: usize, columns: usize) -> String {
+    let lengths = "--key-length 32 --password-length 12 --salt-length 16";
+    let line = format!("cost --time {time} --rows {rows} --columns {columns} {lengths}");
+    lyra2(&words(&line), b"").result()
+}
+
+/// The estimate of a cost.
+fn seconds(output: &str) -> f64 {
+    let last = output.lines().last().expect("six lines");
+    let rest = last
+        .strip_prefix("expected seconds: ")
+        .expect("the last line");
+    let (number, note) = rest.split_once(' ').expect("a note");
+    assert_eq!(note, "(an estimate, from a derivation timed just now)");
+    number.parse().expect("a number")
+}
+
+#[test]
+fn the_lines_of_a_cost() {
+    let output = cost(2, 100, 10);
+    let lines: Vec<&str> = output.lines().take(5).collect();
+    let due = [
+        "full calls: 2",
+        "reduced calls: 3000",
+        "rounds: 3024",
+        "matrix bytes: 96000",
+        "record bytes: 35200",
+    ];
+    assert_eq!(lines, due);
+    assert_eq!(output.lines().count(), 6);
+}
+
+/// Two thousand times as many reduced calls are expected to take longer. The bounds are wide, since the machine
+/// may be busy.
+#[test]
+fn the_estimate_grows_with_the_calls() {
+    let [small, large] = [cost(1, 64, 16), cost(255, 1024, 16)].map(|output| seconds(&output));
+    assert!(small > 0.0 && small < 1.0, "{small}");
+    assert!(large > 2.0 * small && large < 2048.0, "{small} and {large}");
+}
+
+#[test]
+fn every_command_has_its_help_three_ways() {
+    let list = lyra2(&["help"], b"").result();
+    for flag in ["--help", "-h"] {
+        assert_eq!(lyra2(&[flag], b"").result(), list);
+    }
+    for command in COMMANDS {
+        assert!(list.contains(&format!("\n  {command} ")), "{command}");
+        let help = lyra2(&["help", command], b"").result();
+        assert!(
+            help.starts_with(&format!("usage: lyra2 {command} ")),
+            "{help}"
+        );
+        assert!(help.contains("Exit status: 0 for"), "{help}");
+        for flag in ["--help", "-h"] {
+            assert_eq!(lyra2(&[command, flag], b"").result(), help);
+        }
+    }
+}
+
+/// Each option that a help names is one that the command knows, and the other way round.
+#[test]
+fn the_help_names_the_options_that_there_are() {
+    let options = "password-file salt salt-file time rows columns key-length key key-file output \
+                   password-length salt-length";
+    for command in COMMANDS {
+        let help = lyra2(&["help", command], b"").result();
+        for option in words(options) {
+            let named = help.contains(&format!("\n  --{option} "));
+            let line = lyra2(&[command, &format!("--{option}")], b"").failure();
+            let known = line == format!("lyra2 {command}: --{option} has no value");
+            assert_eq!(named, known, "{command} --{option}: {line}");
+        }
+    }
+}
+
+#[test]
+fn help_is_given_before_anything_is_missed() {
+    let help = lyra2(&["derive", "--help"], b"").result();
+    assert_eq!(
+        lyra2(&["derive", "--rows", "3", "--help"], b"").result(),
+        help
+    );
+    assert!(help.contains("exactly one is left out"));
+    assert!(help.contains("seen on the screen"));
+}
+
+#[test]
+fn the_version() {
+    let version = concat!("lyra2 ", env!("CARGO_PKG_VERSION"), "\n");
+    assert_eq!(lyra2(&["--version"], b"").result(), version);
+}

@@ -1,0 +1,469 @@
+//! End-state files: what `trial` writes, what `compare` says, and files that are not in order.
+
+mod common;
+
+use common::end_state::EndState;
+use common::{hex, limited, lyra2, words, Run, TemporaryFile};
+use lyra2_reference::vectors::random::Random;
+use lyra2_reference::{derive_recorded, Inputs};
+
+/// T, R, C and the key length of the trials here.
+const T: u64 = 2;
+const R: u64 = 4;
+const C: u64 = 3;
+const KEY_LENGTH: u64 = 20;
+
+fn trial(password: &[u8]) -> TemporaryFile {
+    trial_of(T, R, C, password)
+}
+
+/// The file of the smallest matrix, for tests that go through its bytes.
+fn small_trial() -> TemporaryFile {
+    trial_of(1, 3, 1, b"pass")
+}
+
+fn trial_of(t: u64, r: u64, c: u64, password: &[u8]) -> TemporaryFile {
+    let file = TemporaryFile::new();
+    let line = format!(
+        "trial --salt {} --time {t} --rows {r} --columns {c} --key-length {KEY_LENGTH} --output {}",
+        hex(b"saltsalt"),
+        file.name()
+    );
+    let printed = lyra2(&words(&line), password).result();
+    let bytes = file.bytes();
+    let sum: String = bytes[bytes.len() - 8..]
+        .iter()
+        .rev()
+        .map(|byte| format!("{byte:02x}"))
+        .collect();
+    assert_eq!(printed, format!("{} bytes, checksum {sum}\n", bytes.len()));
+    file
+}
+
+/// What the second program leaves.
+fn due(password: &[u8]) -> EndState {
+    let inputs = Inputs {
+        password,
+        salt: b"saltsalt",
+        t: T,
+        r: R,
+        c: C,
+    };
+    let sizes = inputs.parameters(KEY_LENGTH as usize);
+    let mut matrix = vec![0; sizes.matrix_words() as usize];
+    let mut record = vec![0; sizes.record_words() as usize];
+    let mut key = [0; KEY_LENGTH as usize];
+    let recorded = derive_recorded(&inputs, &mut key, &mut matrix, &mut record);
+    let recorded = recorded.expect("no check refuses");
+    let counts = recorded.counts;
+    EndState {
+        t: T,
+        r: R,
+        c: C,
+        key_length: KEY_LENGTH,
+        counts: [counts.full, counts.reduced, counts.rounds],
+        state: recorded.state.to_vec(),
+        matrix,
+        record,
+    }
+}
+
+fn compare(first: &TemporaryFile, second: &TemporaryFile) -> Run {
+    lyra2(&["compare", first.name(), second.name()], b"")
+}
+
+/// Compares two end states, as files with fitting checksums.
+fn compared(first: &EndState, second: &EndState) -> Run {
+    let [first, second] = [first, second].map(|end| TemporaryFile::holding(&end.write()));
+    compare(&first, &second)
+}
+
+/// The lines of a comparison of end states that differ.
+#[track_caller]
+fn differing(run: &Run) -> Vec<&str> {
+    assert_eq!((run.status, run.error.as_str()), (Some(1), ""), "{run:?}");
+    run.output.lines().collect()
+}
+
+#[test]
+fn a_trial_writes_what_the_second_program_leaves() {
+    let file = trial(b"pass");
+    assert_eq!(EndState::read(&file.bytes()), due(b"pass"));
+    assert_eq!(file.bytes(), due(b"pass").write());
+    assert_eq!(compare(&file, &trial(b"pass")).result(), "equal\n");
+    assert_eq!(compare(&file, &file).result(), "equal\n");
+}
+
+#[test]
+fn a_trial_replaces_a_file_and_a_refused_one_leaves_it() {
+    let file = TemporaryFile::holding(&[7; 100_000]);
+    let rest = format!("--columns 1 --key-length 8 --output {}", file.name());
+    let start = "trial --salt 0011223344556677 --time 1 --rows";
+    let line = lyra2(&words(&format!("{start} 2 {rest}")), b"pass").failure();
+    assert_eq!(
+        line,
+        "lyra2 trial: refused 5: the number of rows R must be 3 to 16384"
+    );
+    assert_eq!(file.bytes(), [7; 100_000]);
+    lyra2(&words(&format!("{start} 3 {rest}")), b"pass").result();
+    assert_eq!(EndState::read(&file.bytes()).r, 3);
+}
+
+#[test]
+fn a_new_file_is_its_owners_alone() {
+    use std::os::unix::fs::PermissionsExt;
+    let file = trial(b"pass");
+    let mode = file
+        .path()
+        .metadata()
+        .expect("the file is there")
+        .permissions()
+        .mode();
+    assert_eq!(mode & 0o777, 0o600);
+}
+
+#[test]
+fn two_passwords_part_in_every_part() {
+    let run = compare(&trial(b"pass"), &trial(b"word"));
+    let lines = differing(&run);
+    assert_eq!(lines.len(), 5);
+    assert!(
+        lines[0].starts_with("different, first in the record: visit "),
+        "{run:?}"
+    );
+    assert_eq!(lines[1], "header: equal");
+    let [first, second] = [due(b"pass").state[0], due(b"word").state[0]];
+    assert_eq!(
+        lines[2],
+        format!("state: parts at word 0: {first:016x} and {second:016x}")
+    );
+    assert!(
+        lines[3].starts_with("matrix: parts at row 0, column 0, word 0: "),
+        "{run:?}"
+    );
+    assert!(lines[4].starts_with("record: parts at visit "), "{run:?}");
+}
+
+/// The lines for end states that differ in one part at one place.
+fn one_place(part: &str, words: &str) -> Vec<String> {
+    let mut lines = vec![format!("different, first in the {part}: {words}")];
+    for name in ["header", "state", "matrix", "record"] {
+        lines.push(match name == part {
+            true => format!("{name}: parts at {words}"),
+            false => format!("{name}: equal"),
+        });
+    }
+    lines
+}
+
+#[test]
+fn every_word_of_the_state_is_named() {
+    let end = due(b"pass");
+    for place in 0..16 {
+        let mut other = end.clone();
+        other.state[place] ^= 1 << 63;
+        let (x, y) = (end.state[place], other.state[place]);
+        let words = format!("word {place}: {x:016x} and {y:016x}");
+        assert_eq!(
+            differing(&compared(&end, &other)),
+            one_place("state", &words)
+        );
+    }
+}
+
+#[test]
+fn every_word_of_the_matrix_is_named() {
+    let end = due(b"pass");
+    let mut place = 0;
+    for (row, column) in (0..R).flat_map(|row| (0..C).map(move |column| (row, column))) {
+        for word in 0..12 {
+            let mut other = end.clone();
+            other.matrix[place] ^= 1;
+            let (x, y) = (end.matrix[place], other.matrix[place]);
+            let words = format!("row {row}, column {column}, word {word}: {x:016x} and {y:016x}");
+            assert_eq!(
+                differing(&compared(&end, &other)),
+                one_place("matrix", &words)
+            );
+            place += 1;
+        }
+    }
+    assert_eq!(place, end.matrix.len());
+}
+
+#[test]
+fn every_word_of_the_record_is_named() {
+    let end = due(b"pass");
+    let mut place = 0;
+    for visit in 0..R * T {
+        let columns = (0..C).flat_map(|column| [0, 1].map(|n| format!("column {column}, col{n}")));
+        let picks = ["row0".to_string(), "row1".to_string()]
+            .into_iter()
+            .chain(columns);
+        for pick in picks {
+            let mut other = end.clone();
+            other.record[place] += 5;
+            let (x, y) = (end.record[place], other.record[place]);
+            let words = format!("visit {visit}, {pick}: {x} and {y}");
+            assert_eq!(
+                differing(&compared(&end, &other)),
+                one_place("record", &words)
+            );
+            place += 1;
+        }
+    }
+    assert_eq!(place, end.record.len());
+}
+
+/// The first difference of a part is told, whatever follows.
+#[test]
+fn of_many_differences_the_first_is_told() {
+    let end = due(b"pass");
+    let mut other = end.clone();
+    other.matrix[40..].fill(0);
+    other.record[9..].fill(77);
+    let run = compared(&end, &other);
+    let lines = differing(&run);
+    let record = format!("visit 1, row1: {} and 77", end.record[9]);
+    assert_eq!(
+        lines[0],
+        format!("different, first in the record: {record}")
+    );
+    assert_eq!(lines[2], "state: equal");
+    let word = end.matrix[40];
+    let matrix = format!("row 1, column 0, word 4: {word:016x} and 0000000000000000");
+    assert_eq!(lines[3], format!("matrix: parts at {matrix}"));
+    assert_eq!(lines[4], format!("record: parts at {record}"));
+    let mut other = end.clone();
+    other.matrix[0] ^= 1;
+    other.state[15] ^= 1;
+    let run = compared(&end, &other);
+    assert!(differing(&run)[0].starts_with("different, first in the state: word 15: "));
+}
+
+#[test]
+fn header_fields() {
+    let end = due(b"pass");
+    let mut other = end.clone();
+    other.key_length = 21;
+    other.counts = [9, 9, 9];
+    let run = compared(&end, &other);
+    assert_eq!(
+        differing(&run),
+        one_place("header", "key length: 20 and 21")
+    );
+    for (place, name) in ["full calls", "reduced calls", "rounds"]
+        .into_iter()
+        .enumerate()
+    {
+        let mut other = end.clone();
+        other.counts[place] = u64::MAX;
+        let words = format!("{name}: {} and {}", end.counts[place], u64::MAX);
+        assert_eq!(
+            differing(&compared(&end, &other)),
+            one_place("header", &words)
+        );
+    }
+}
+
+#[test]
+fn other_t_r_or_c() {
+    let end = due(b"pass");
+    let of = |t: u64, r: u64, c: u64| EndState {
+        t,
+        r,
+        c,
+        matrix: vec![1; (12 * r * c) as usize],
+        record: vec![1; (r * t * (2 + 2 * c)) as usize],
+        ..end.clone()
+    };
+    for (other, words) in [
+        (of(T + 1, R, C), "T: 2 and 3"),
+        (of(T, R + 1, C), "R: 4 and 5"),
+        (of(T, R, C - 1), "C: 3 and 2"),
+        (of(T + 1, R + 1, C + 1), "T: 2 and 3"),
+    ] {
+        let run = compared(&end, &other);
+        let lines = differing(&run);
+        assert_eq!(lines[0], format!("different, first in the header: {words}"));
+        assert_eq!(lines[1], format!("header: parts at {words}"));
+        assert_eq!(lines[2], "state: equal");
+        assert_eq!(lines[3], "matrix: not compared, since T, R or C differ");
+        assert_eq!(lines[4], "record: not compared, since T, R or C differ");
+        // A damaged file is told even where nothing of it would be compared.
+        let mut damaged = other.write();
+        damaged.truncate(damaged.len() - 1);
+        let files = [end.write(), damaged].map(|bytes| TemporaryFile::holding(&bytes));
+        assert!(compare(&files[0], &files[1])
+            .failure()
+            .contains("shorter than the "));
+        assert!(compare(&files[1], &files[0])
+            .failure()
+            .contains("shorter than the "));
+    }
+}
+
+/// The line for a file that is compared with a good one, in both places.
+#[track_caller]
+fn fault(bytes: &[u8], good: &TemporaryFile) -> String {
+    let file = TemporaryFile::holding(bytes);
+    let line = compare(&file, good).failure();
+    assert_eq!(compare(good, &file).failure(), line);
+    let start = format!("lyra2 compare: {:?}: ", file.name());
+    line.strip_prefix(&start)
+        .expect("the file's name")
+        .to_string()
+}
+
+#[test]
+fn files_cut_short_at_every_length() {
+    let good = small_trial();
+    let bytes = good.bytes();
+    let whole = format!(
+        "shorter than the {} bytes that its header asks for",
+        bytes.len()
+    );
+    for length in 0..bytes.len() {
+        let due = match length {
+            0..72 => "shorter than the header of 72 bytes",
+            _ => &whole,
+        };
+        assert_eq!(fault(&bytes[..length], &good), due, "{length}");
+    }
+}
+
+#[test]
+fn files_with_a_changed_byte() {
+    let good = small_trial();
+    let mut random = Random::new(11);
+    for place in 0..good.bytes().len() {
+        let mut bytes = good.bytes();
+        bytes[place] ^= random.between(1, 255) as u8;
+        let line = fault(&bytes, &good);
+        let due = match place {
+            0..8 => "not an end-state file",
+            8..16 => "version ",
+            16..48 => "",
+            _ => "damaged: its checksum is ",
+        };
+        assert!(line.starts_with(due), "{place}: {line}");
+    }
+}
+
+/// The header's words at random, with a checksum that fits: no answer but the three that there are.
+#[test]
+fn headers_at_random() {
+    let good = trial(b"pass");
+    let end = due(b"pass");
+    let mut random = Random::new(12);
+    let interesting = [
+        0,
+        1,
+        2,
+        3,
+        255,
+        256,
+        257,
+        16_384,
+        16_385,
+        1 << 32 | 1,
+        u64::MAX,
+    ];
+    let mut draw = || interesting[random.between(0, 10) as usize];
+    for _ in 0..300 {
+        let other = EndState {
+            t: draw(),
+            r: draw(),
+            c: draw(),
+            key_length: draw(),
+            ..end.clone()
+        };
+        let line = fault(&other.write(), &good);
+        let is_known =
+            line.contains(" is due") || line.contains("er than the ") || line.contains("damaged");
+        assert!(is_known, "{other:?}: {line}");
+    }
+}
+
+#[test]
+fn numbers_outside_their_limits() {
+    let (good, end) = (trial(b"pass"), due(b"pass"));
+    let with = |t: u64, r: u64, c: u64, key_length: u64| EndState {
+        t,
+        r,
+        c,
+        key_length,
+        ..end.clone()
+    };
+    for (other, words) in [
+        (with(0, R, C, 8), "T is 0 in its header; 1 to 255 is due"),
+        (
+            with(256, R, C, 8),
+            "T is 256 in its header; 1 to 255 is due",
+        ),
+        (with(T, 2, C, 8), "R is 2 in its header; 3 to 16384 is due"),
+        (
+            with(T, 16_385, C, 8),
+            "R is 16385 in its header; 3 to 16384 is due",
+        ),
+        (with(T, R, 0, 8), "C is 0 in its header; 1 to 256 is due"),
+        (
+            with(T, R, u64::MAX, 8),
+            "C is 18446744073709551615 in its header; 1 to 256 is due",
+        ),
+        (
+            with(T, R, C, 0),
+            "the key length is 0 in its header; 1 to 1024 is due",
+        ),
+        (
+            with(T, R, C, 1025),
+            "the key length is 1025 in its header; 1 to 1024 is due",
+        ),
+    ] {
+        assert_eq!(fault(&other.write(), &good), words);
+    }
+}
+
+#[test]
+fn a_file_with_a_byte_too_many() {
+    let good = trial(b"pass");
+    let longer = [good.bytes(), vec![0]].concat();
+    let words = format!(
+        "longer than the {} bytes that its header asks for",
+        good.bytes().len()
+    );
+    assert_eq!(fault(&longer, &good), words);
+}
+
+/// The header of the largest file, and nothing after the state: compared in little memory.
+#[test]
+fn a_large_header_asks_for_no_memory() {
+    let end = EndState {
+        t: 255,
+        r: 16_384,
+        c: 256,
+        ..due(b"pass")
+    };
+    let file = TemporaryFile::holding(&end.write());
+    let name = file.name();
+    let ended = limited(100_000, &format!("compare {name} {name}")).output();
+    let ended = ended.expect("a shell");
+    let bytes = 8 * (9 + 16 + 12 * 16_384 * 256 + 16_384 * 255 * 514 + 1u64);
+    let words = format!("shorter than the {bytes} bytes that its header asks for");
+    let line = format!("lyra2 compare: {name:?}: {words}\n");
+    assert_eq!(String::from_utf8_lossy(&ended.stderr), line);
+    assert_eq!(ended.status.code(), Some(2));
+}
+
+#[test]
+fn other_files() {
+    let good = trial(b"pass");
+    let other = "not an end-state file: it does not start with LYRA2END";
+    assert_eq!(fault(&[0; 1000], &good), other);
+    assert_eq!(fault(b"", &good), "shorter than the header of 72 bytes");
+    let line = lyra2(&["compare", "/dev/zero", good.name()], b"").failure();
+    assert_eq!(line, format!("lyra2 compare: \"/dev/zero\": {other}"));
+    let mut newer = good.bytes();
+    newer[8] = 2;
+    assert_eq!(fault(&newer, &good), "version 2; version 1 is read");
+}

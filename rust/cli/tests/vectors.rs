@@ -1,0 +1,230 @@
+//! The vectors file put to the program, wherever the command line can ask the question.
+//!
+//! The program lends buffers that fit, so it is never refused with 7 or 8; those lines and the four that lend
+//! 400 MB are left out.
+
+mod common;
+
+use common::end_state::EndState;
+use common::{hex, lyra2, Run, TemporaryFile};
+use lyra2_reference::vectors::{checksum, read, Answer, Case, Given, Question};
+use lyra2_reference::{Counts, Refusal};
+
+const FILE: &str = concat!(env!("CARGO_MANIFEST_DIR"), "/../../vectors/lyra2.txt");
+/// A matrix of more words belongs to the lines that lend 400 MB.
+const MANY_WORDS: u64 = 1 << 24;
+
+/// The lines of the file that can be asked and are wanted.
+fn cases(wanted: impl Fn(&Question) -> bool) -> Vec<Case> {
+    let file = std::fs::read(FILE).expect("the repository has its vectors file");
+    let lines = read(&file).expect("the vectors file can be read");
+    let cases = lines.into_iter().map(|(_, case)| case);
+    cases
+        .filter(|case| wanted(&case.question) && can_be_asked(case))
+        .collect()
+}
+
+fn can_be_asked(case: &Case) -> bool {
+    let short = [Refusal::MatrixWords, Refusal::RecordWords].map(Answer::Refused);
+    let many_words = match &case.question {
+        Question::DeriveRecorded { given, .. } => given.matrix_words > MANY_WORDS,
+        _ => false,
+    };
+    !short.contains(&case.answer) && !many_words
+}
+
+/// Runs a command on the inputs of a case: the password by standard input or by a file, and the salt by the
+/// command line or by a file, in turn.
+fn run_on(command: &str, given: &Given, number: u64, others: &[String]) -> Run {
+    let (mut password, salt) = (given.password.to_vec(), given.salt.to_vec());
+    let password_file = TemporaryFile::holding(&password);
+    let salt_file = TemporaryFile::holding(&salt);
+    let mut arguments: Vec<String> = [
+        [command.to_string(), format!("--time={}", given.t)],
+        [
+            format!("--rows={}", given.r),
+            format!("--columns={}", given.c),
+        ],
+    ]
+    .concat();
+    arguments.extend_from_slice(others);
+    if number.is_multiple_of(2) {
+        arguments.push(format!("--password-file={}", password_file.name()));
+    } else {
+        password.push(b'\n');
+    }
+    if number.is_multiple_of(3) || salt.len() > 100 {
+        arguments.push(format!("--salt-file={}", salt_file.name()));
+    } else {
+        arguments.push(format!("--salt={}", hex(&salt)));
+    }
+    lyra2(&arguments, &password)
+}
+
+/// Whether the run was refused as the answer has it; false if the answer is no refusal.
+fn is_refused(run: &Run, answer: &Answer, number: u64) -> bool {
+    let Answer::Refused(refusal) = answer else {
+        return false;
+    };
+    assert_eq!(
+        (run.status, run.output.as_str()),
+        (Some(2), ""),
+        "case {number}"
+    );
+    let start = format!(": refused {}: ", refusal.number());
+    assert!(run.error.contains(&start), "case {number}: {}", run.error);
+    true
+}
+
+#[test]
+fn plain_derivations() {
+    let is_plain = |question: &Question| matches!(question, Question::Derive { .. });
+    let cases = cases(is_plain);
+    for case in &cases {
+        let Question::Derive { given, key_len } = &case.question else {
+            continue;
+        };
+        let run = run_on(
+            "derive",
+            given,
+            case.number,
+            &[format!("--key-length={key_len}")],
+        );
+        if let Answer::Derived { key, .. } = &case.answer {
+            assert_eq!(run.result(), hex(key) + "\n", "case {}", case.number);
+        } else {
+            assert!(is_refused(&run, &case.answer, case.number));
+        }
+    }
+    assert!(cases.len() >= 70, "{}", cases.len());
+}
+
+#[test]
+fn recorded_derivations() {
+    let is_recorded = |question: &Question| matches!(question, Question::DeriveRecorded { .. });
+    let cases = cases(is_recorded);
+    for case in &cases {
+        let Question::DeriveRecorded { given, key_len, .. } = &case.question else {
+            continue;
+        };
+        let length = format!("--key-length={key_len}");
+        let file = TemporaryFile::new();
+        let output = format!("--output={}", file.name());
+        let run = run_on("trial", given, case.number, &[length.clone(), output]);
+        if is_refused(&run, &case.answer, case.number) {
+            assert!(!file.path().exists(), "case {}", case.number);
+            continue;
+        }
+        run.result();
+        assert_end_state(case, &EndState::read(&file.bytes()));
+        if let Answer::Recorded { key, .. } = &case.answer {
+            let run = run_on("derive", given, case.number + 1, &[length]);
+            assert_eq!(run.result(), hex(key) + "\n", "case {}", case.number);
+        }
+    }
+    assert!(cases.len() >= 1500, "{}", cases.len());
+}
+
+fn assert_end_state(case: &Case, found: &EndState) {
+    let Answer::Recorded {
+        state,
+        counts,
+        matrix_sum,
+        record_sum,
+        in_full,
+        ..
+    } = &case.answer
+    else {
+        panic!("case {} has another operation's answer", case.number);
+    };
+    assert_eq!(found.state, state, "case {}", case.number);
+    assert_eq!(found.counts, listed(counts), "case {}", case.number);
+    let sums = [&found.matrix, &found.record].map(|words| checksum::of_words(words));
+    assert_eq!(sums, [*matrix_sum, *record_sum], "case {}", case.number);
+    if let Some((matrix, record)) = in_full {
+        assert_eq!((&found.matrix, &found.record), (matrix, record));
+    }
+}
+
+fn listed(counts: &Counts) -> [u64; 3] {
+    [counts.full, counts.reduced, counts.rounds]
+}
+
+#[test]
+fn checks() {
+    let cases = cases(|question| matches!(question, Question::Check { .. }));
+    for case in &cases {
+        let Question::Check { given, stored } = &case.question else {
+            continue;
+        };
+        let stored = hex(&stored.to_vec());
+        let file = TemporaryFile::holding(stored.as_bytes());
+        let key = if case.number % 5 < 2 || stored.len() > 10_000 {
+            format!("--key-file={}", file.name())
+        } else {
+            format!("--key={stored}")
+        };
+        let run = run_on("check", given, case.number, &[key]);
+        if let Answer::Checked { matches, .. } = case.answer {
+            let (status, output) = if matches { (0, "yes\n") } else { (1, "no\n") };
+            assert_eq!(run.status, Some(status), "case {}", case.number);
+            assert_eq!((run.output.as_str(), run.error.as_str()), (output, ""));
+        } else {
+            assert!(is_refused(&run, &case.answer, case.number));
+        }
+    }
+    assert!(cases.len() >= 130, "{}", cases.len());
+}
+
+#[test]
+fn cost_questions() {
+    let cases = cases(|question| matches!(question, Question::Cost(_)));
+    for case in &cases {
+        let Question::Cost(given) = &case.question else {
+            continue;
+        };
+        let run = lyra2(
+            &[
+                "cost".to_string(),
+                format!("--key-length={}", given.key_len),
+                format!("--password-length={}", given.password_len),
+                format!("--salt-length={}", given.salt_len),
+                format!("--time={}", given.t),
+                format!("--rows={}", given.r),
+                format!("--columns={}", given.c),
+            ],
+            b"",
+        );
+        if let Answer::Cost(counts) = &case.answer {
+            let [full, reduced, rounds] = listed(counts);
+            let start = format!(
+                "full calls: {full}\nreduced calls: {reduced}\nrounds: {rounds}\n\
+                 matrix bytes: {}\nrecord bytes: {}\nexpected seconds: ",
+                8 * given.matrix_words(),
+                8 * given.record_words()
+            );
+            let output = run.result();
+            assert!(output.starts_with(&start), "case {}: {output}", case.number);
+        } else {
+            assert!(is_refused(&run, &case.answer, case.number));
+        }
+    }
+    assert!(cases.len() >= 120, "{}", cases.len());
+}
+
+#[test]
+fn walk_questions() {
+    let cases = cases(|question| matches!(question, Question::Walk { .. }));
+    for case in &cases {
+        let Question::Walk { r, row0 } = case.question else {
+            continue;
+        };
+        let run = lyra2(&["walk".to_string(), r.to_string(), row0.to_string()], b"");
+        if let Answer::Walk { row1 } = case.answer {
+            assert_eq!(run.result(), format!("{row1}\n"), "case {}", case.number);
+        } else {
+            assert!(is_refused(&run, &case.answer, case.number));
+        }
+    }
+    assert!(cases.len() >= 220, "{}", cases.len());
+}

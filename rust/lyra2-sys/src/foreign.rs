@@ -1,0 +1,67 @@
+//! The functions of the crate `derivation_export` under their C names.
+//!
+//! A Rattle slice passes as a pointer and a number of elements. A reference to an array or a number passes as
+//! a pointer.
+
+extern "C" {
+    pub fn lyra2_derive(
+        password: *const u8,
+        password_len: usize,
+        salt: *const u8,
+        salt_len: usize,
+        time: usize,
+        rows: usize,
+        columns: usize,
+        key: *mut u8,
+        key_len: usize,
+        matrix: *mut u64,
+        matrix_len: usize,
+        counts: *mut [u64; 3],
+    ) -> u32;
+
+    pub fn lyra2_derive_recorded(
+        password: *const u8,
+        password_len: usize,
+        salt: *const u8,
+        salt_len: usize,
+        time: usize,
+        rows: usize,
+        columns: usize,
+        key: *mut u8,
+        key_len: usize,
+        matrix: *mut u64,
+        matrix_len: usize,
+        record: *mut u64,
+        record_len: usize,
+        state: *mut [u64; 16],
+        counts: *mut [u64; 3],
+    ) -> u32;
+
+    pub fn lyra2_check(
+        password: *const u8,
+        password_len: usize,
+        salt: *const u8,
+        salt_len: usize,
+        time: usize,
+        rows: usize,
+        columns: usize,
+        stored: *const u8,
+        stored_len: usize,
+        matrix: *mut u64,
+        matrix_len: usize,
+        same: *mut u32,
+        counts: *mut [u64; 3],
+    ) -> u32;
+
+    pub fn lyra2_cost(
+        key: usize,
+        password: usize,
+        salt: usize,
+        time: usize,
+        rows: usize,
+        columns: usize,
+        counts: *mut [u64; 3],
+    ) -> u32;
+
+    pub fn lyra2_walk(rows: usize, row0: usize, row1: *mut usize) -> u32;
+}

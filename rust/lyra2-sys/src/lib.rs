@@ -1,0 +1,155 @@
+//! The C interface of the proved library, called with slices.
+//!
+//! Each function returns 0 or the number of a refusal and leaves the places for the answer to the caller, who
+//! can so see that a refused call changes none of them. The crate `lyra2` turns the numbers into results.
+//!
+//! All functions here are safe to call. The proved functions ask nothing of their arguments, read and write
+//! only the elements that a pointer's length covers, keep no pointer, and end. What is left to Rust is that
+//! lengths and pointers belong together, which slices and arrays give, and that nothing else is written or
+//! read through while the call writes, which the borrows give: a `&mut` overlaps no other argument.
+
+#![warn(missing_docs)]
+
+mod foreign;
+
+/// The three numbers that a call spends: full calls, reduced calls, rounds.
+pub type Counts = [u64; 3];
+
+/// The sixteen words of the sponge.
+pub type State = [u64; 16];
+
+/// What a derivation is made from, apart from the lent buffers.
+#[derive(Clone, Copy)]
+pub struct Input<'a> {
+    /// The password.
+    pub password: &'a [u8],
+    /// The salt.
+    pub salt: &'a [u8],
+    /// The time cost T.
+    pub time: usize,
+    /// The number of rows R.
+    pub rows: usize,
+    /// The number of columns C.
+    pub columns: usize,
+}
+
+/// The six numbers that the cost question is about.
+#[derive(Clone, Copy, Debug)]
+pub struct Sizes {
+    /// Key length in bytes.
+    pub key: usize,
+    /// Password length in bytes.
+    pub password: usize,
+    /// Salt length in bytes.
+    pub salt: usize,
+    /// The time cost T.
+    pub time: usize,
+    /// The number of rows R.
+    pub rows: usize,
+    /// The number of columns C.
+    pub columns: usize,
+}
+
+/// The plain derivation: fills the key and the used matrix.
+pub fn derive(input: Input, key: &mut [u8], matrix: &mut [u64], counts: &mut Counts) -> u32 {
+    // SAFETY: each pointer comes from a slice and goes with that slice's length, `counts` has the three words
+    // that the call may write, and key, matrix and counts are borrowed by this call alone.
+    unsafe {
+        foreign::lyra2_derive(
+            input.password.as_ptr(),
+            input.password.len(),
+            input.salt.as_ptr(),
+            input.salt.len(),
+            input.time,
+            input.rows,
+            input.columns,
+            key.as_mut_ptr(),
+            key.len(),
+            matrix.as_mut_ptr(),
+            matrix.len(),
+            counts,
+        )
+    }
+}
+
+/// The recorded derivation: also fills the used record, and `state` becomes the state after the last visit.
+pub fn derive_recorded(
+    input: Input,
+    key: &mut [u8],
+    matrix: &mut [u64],
+    record: &mut [u64],
+    state: &mut State,
+    counts: &mut Counts,
+) -> u32 {
+    // SAFETY: as in the plain derivation; the record goes with its length, the state has the sixteen words
+    // that the call may write, and both are borrowed by this call alone.
+    unsafe {
+        foreign::lyra2_derive_recorded(
+            input.password.as_ptr(),
+            input.password.len(),
+            input.salt.as_ptr(),
+            input.salt.len(),
+            input.time,
+            input.rows,
+            input.columns,
+            key.as_mut_ptr(),
+            key.len(),
+            matrix.as_mut_ptr(),
+            matrix.len(),
+            record.as_mut_ptr(),
+            record.len(),
+            state,
+            counts,
+        )
+    }
+}
+
+/// The check: `same` becomes 1 if the stored bytes are the key, else 0.
+pub fn check(
+    input: Input,
+    stored: &[u8],
+    matrix: &mut [u64],
+    same: &mut u32,
+    counts: &mut Counts,
+) -> u32 {
+    // SAFETY: as in the plain derivation; the stored key goes with its length and is only read.
+    unsafe {
+        foreign::lyra2_check(
+            input.password.as_ptr(),
+            input.password.len(),
+            input.salt.as_ptr(),
+            input.salt.len(),
+            input.time,
+            input.rows,
+            input.columns,
+            stored.as_ptr(),
+            stored.len(),
+            matrix.as_mut_ptr(),
+            matrix.len(),
+            same,
+            counts,
+        )
+    }
+}
+
+/// The cost question.
+pub fn cost(sizes: Sizes, counts: &mut Counts) -> u32 {
+    // SAFETY: the pointer is to three words that this call alone borrows; the rest are numbers.
+    unsafe {
+        foreign::lyra2_cost(
+            sizes.key,
+            sizes.password,
+            sizes.salt,
+            sizes.time,
+            sizes.rows,
+            sizes.columns,
+            counts,
+        )
+    }
+}
+
+/// The walk question: `row1` becomes the row that the Setup step of `row0` revisits.
+pub fn walk(rows: usize, row0: usize, row1: &mut usize) -> u32 {
+    // SAFETY: the pointer is to a number that this call alone borrows.
+    unsafe { foreign::lyra2_walk(rows, row0, row1) }
+}

@@ -1,0 +1,74 @@
+//! Lyra2 key derivation over a lent matrix.
+//!
+//! The work is done by the proved library, which `rt staticlib derivation_export` builds; this crate gives it
+//! Rust's types and adds no check and no rule of its own. No call allocates, and none can go wrong in another
+//! way than by a [`Refusal`], which leaves every lent buffer as it was.
+//!
+//! # A key
+//!
+//! The caller lends the key buffer, whose length is the key length, and a matrix of at least
+//! [`Parameters::matrix_words`] words.
+//!
+//! ```
+//! use lyra2::{derive, Parameters};
+//!
+//! let parameters = Parameters { time: 1, rows: 64, columns: 16 };
+//! let mut matrix = vec![0; parameters.matrix_words().expect("a few thousand words")];
+//! let mut key = [0; 32];
+//! let counts = derive(b"password", b"saltsalt", parameters, &mut key, &mut matrix)?;
+//!
+//! assert_eq!(key[..4], [0xf0, 0x66, 0xef, 0xe4]);
+//! assert_eq!(counts.reduced, 64 * 16 * 2);
+//! # Ok::<(), lyra2::Refusal>(())
+//! ```
+//!
+//! After a derivation or a check the matrix holds what was made from the password: overwrite it before lending
+//! it to anything else. The stack below the call may still hold the last input block and the state.
+//!
+//! # A check
+//!
+//! ```
+//! use lyra2::{check, derive, Parameters};
+//!
+//! let parameters = Parameters { time: 1, rows: 8, columns: 4 };
+//! let mut matrix = [0; 12 * 8 * 4];
+//! let mut stored = [0; 32];
+//! derive(b"password", b"saltsalt", parameters, &mut stored, &mut matrix)?;
+//!
+//! assert!(check(b"password", b"saltsalt", parameters, &stored, &mut matrix)?.same);
+//! assert!(!check(b"Password", b"saltsalt", parameters, &stored, &mut matrix)?.same);
+//! # Ok::<(), lyra2::Refusal>(())
+//! ```
+//!
+//! # A refusal
+//!
+//! The checks run by number and the first that applies is returned. Asked before memory is set aside, [`cost`]
+//! tells whether a call with a matrix that fits will be accepted.
+//!
+//! ```
+//! use lyra2::{cost, Lengths, Parameters, Refusal};
+//!
+//! let lengths = Lengths { key: 32, password: 8, salt: 7 };
+//! let parameters = Parameters { time: 0, rows: 64, columns: 16 };
+//! let refusal = cost(lengths, parameters).unwrap_err();
+//!
+//! assert_eq!(refusal, Refusal::SaltLength);
+//! assert_eq!(refusal.number(), 3);
+//! assert_eq!(refusal.to_string(), "the salt must be 8 to 64 bytes long");
+//! ```
+
+#![forbid(unsafe_code)]
+#![warn(missing_docs)]
+
+mod operations;
+mod parameters;
+mod refusal;
+
+pub use operations::{
+    check, cost, derive, derive_recorded, walk, Checked, Counts, Recorded, STATE_WORDS,
+};
+pub use parameters::{
+    Lengths, Parameters, CELL_WORDS, COLUMNS, KEY_LENGTHS, PASSWORD_LENGTHS, ROWS, SALT_LENGTHS,
+    TIME_COSTS,
+};
+pub use refusal::Refusal;

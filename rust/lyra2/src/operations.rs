@@ -1,0 +1,172 @@
+//! The operations. Each hands its arguments on to the library and its answer back.
+
+use crate::parameters::{Lengths, Parameters};
+use crate::refusal::Refusal;
+
+/// Words of the sponge's state.
+pub const STATE_WORDS: usize = 16;
+
+/// What a call spends.
+#[derive(Clone, Copy, Debug, PartialEq, Eq)]
+pub struct Counts {
+    /// Full calls of the permutation.
+    pub full: u64,
+    /// Reduced calls.
+    pub reduced: u64,
+    /// Rounds of all calls together.
+    pub rounds: u64,
+}
+
+impl Counts {
+    /// The counts as the library stores them.
+    fn stored([full, reduced, rounds]: lyra2_sys::Counts) -> Counts {
+        Counts {
+            full,
+            reduced,
+            rounds,
+        }
+    }
+}
+
+/// What a check answers.
+#[derive(Clone, Copy, Debug, PartialEq, Eq)]
+#[must_use]
+pub struct Checked {
+    /// Whether the stored bytes are the key.
+    pub same: bool,
+    /// What was spent.
+    pub counts: Counts,
+}
+
+/// What a recorded derivation answers beside what it leaves in the lent buffers.
+#[derive(Clone, Copy, Debug, PartialEq, Eq)]
+pub struct Recorded {
+    /// The state after the last visit.
+    pub state: [u64; STATE_WORDS],
+    /// What was spent.
+    pub counts: Counts,
+}
+
+fn input<'a>(password: &'a [u8], salt: &'a [u8], parameters: Parameters) -> lyra2_sys::Input<'a> {
+    lyra2_sys::Input {
+        password,
+        salt,
+        time: parameters.time,
+        rows: parameters.rows,
+        columns: parameters.columns,
+    }
+}
+
+/// The plain derivation: fills the key, whose length is the key length, and the used matrix.
+///
+/// Words of the matrix past the used ones keep their contents. Refusals 1 to 7.
+pub fn derive(
+    password: &[u8],
+    salt: &[u8],
+    parameters: Parameters,
+    key: &mut [u8],
+    matrix: &mut [u64],
+) -> Result<Counts, Refusal> {
+    let mut counts = [0; 3];
+    let number = lyra2_sys::derive(input(password, salt, parameters), key, matrix, &mut counts);
+    Refusal::accepted(number)?;
+    Ok(Counts::stored(counts))
+}
+
+/// The recorded derivation: as the plain one, and fills the used record with the rows and columns of each visit.
+///
+/// Words of the record past the used ones keep their contents. Refusals 1 to 8.
+///
+/// ```
+/// use lyra2::{derive_recorded, Parameters};
+///
+/// let parameters = Parameters { time: 1, rows: 3, columns: 1 };
+/// let (mut key, mut matrix, mut record) = ([0; 32], [0; 36], [0; 12]);
+/// let recorded = derive_recorded(b"", b"saltsalt", parameters, &mut key, &mut matrix, &mut record)?;
+///
+/// // Each of the three visits wrote row0, row1 and, for the only column, col0 and col1.
+/// for visit in record.chunks(4) {
+///     assert!(visit[0] < 3 && visit[1] < 3);
+///     assert_eq!(visit[2..], [0, 0]);
+/// }
+/// assert_eq!(recorded.counts.reduced, 6);
+/// # Ok::<(), lyra2::Refusal>(())
+/// ```
+pub fn derive_recorded(
+    password: &[u8],
+    salt: &[u8],
+    parameters: Parameters,
+    key: &mut [u8],
+    matrix: &mut [u64],
+    record: &mut [u64],
+) -> Result<Recorded, Refusal> {
+    let (mut state, mut counts) = ([0; STATE_WORDS], [0; 3]);
+    let number = lyra2_sys::derive_recorded(
+        input(password, salt, parameters),
+        key,
+        matrix,
+        record,
+        &mut state,
+        &mut counts,
+    );
+    Refusal::accepted(number)?;
+    Ok(Recorded {
+        state,
+        counts: Counts::stored(counts),
+    })
+}
+
+/// The check: derives a key as long as the stored one and tells whether they are the same.
+///
+/// The comparison looks at every byte, wherever the keys differ. The matrix is left as [`derive()`] leaves it.
+/// Refusals 1 to 7.
+pub fn check(
+    password: &[u8],
+    salt: &[u8],
+    parameters: Parameters,
+    stored: &[u8],
+    matrix: &mut [u64],
+) -> Result<Checked, Refusal> {
+    let (mut same, mut counts) = (0, [0; 3]);
+    let number = lyra2_sys::check(
+        input(password, salt, parameters),
+        stored,
+        matrix,
+        &mut same,
+        &mut counts,
+    );
+    Refusal::accepted(number)?;
+    Ok(Checked {
+        same: same == 1,
+        counts: Counts::stored(counts),
+    })
+}
+
+/// The cost question: what a derivation or a check spends, with nothing derived. Refusals 1 to 6.
+pub fn cost(lengths: Lengths, parameters: Parameters) -> Result<Counts, Refusal> {
+    let mut counts = [0; 3];
+    let sizes = lyra2_sys::Sizes {
+        key: lengths.key,
+        password: lengths.password,
+        salt: lengths.salt,
+        time: parameters.time,
+        rows: parameters.rows,
+        columns: parameters.columns,
+    };
+    let number = lyra2_sys::cost(sizes, &mut counts);
+    Refusal::accepted(number)?;
+    Ok(Counts::stored(counts))
+}
+
+/// The walk question: the row that Setup revisits while it fills `row0`. Refusals 5 and 9.
+///
+/// ```
+/// assert_eq!(lyra2::walk(8, 5), Ok(3));
+/// assert_eq!(lyra2::walk(8, 2), Err(lyra2::Refusal::WalkRow));
+/// ```
+pub fn walk(rows: usize, row0: usize) -> Result<usize, Refusal> {
+    let mut row1 = 0;
+    let number = lyra2_sys::walk(rows, row0, &mut row1);
+    Refusal::accepted(number)?;
+    Ok(row1)
+}

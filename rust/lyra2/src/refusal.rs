@@ -1,0 +1,81 @@
+//! The refusals: their numbers and their sentences.
+
+use crate::parameters::{COLUMNS, KEY_LENGTHS, PASSWORD_LENGTHS, ROWS, SALT_LENGTHS, TIME_COSTS};
+use std::fmt;
+
+/// Why a call was turned down. The value of a case is its number.
+#[derive(Clone, Copy, Debug, PartialEq, Eq, PartialOrd, Ord, Hash)]
+#[non_exhaustive]
+pub enum Refusal {
+    /// The key length is outside its limits.
+    KeyLength = 1,
+    /// The password is too long.
+    PasswordLength = 2,
+    /// The salt length is outside its limits.
+    SaltLength = 3,
+    /// T is outside its limits.
+    TimeCost = 4,
+    /// R is outside its limits.
+    Rows = 5,
+    /// C is outside its limits.
+    Columns = 6,
+    /// The lent matrix is too short for R and C.
+    MatrixWords = 7,
+    /// The lent record is too short for T, R and C.
+    RecordWords = 8,
+    /// The walk question names a row that no Setup step fills.
+    WalkRow = 9,
+}
+
+impl Refusal {
+    /// Every refusal, in the order of the checks.
+    pub const ALL: [Refusal; 9] = [
+        Refusal::KeyLength,
+        Refusal::PasswordLength,
+        Refusal::SaltLength,
+        Refusal::TimeCost,
+        Refusal::Rows,
+        Refusal::Columns,
+        Refusal::MatrixWords,
+        Refusal::RecordWords,
+        Refusal::WalkRow,
+    ];
+
+    /// The refusal's number.
+    pub fn number(self) -> u32 {
+        self as u32
+    }
+
+    /// The answer that the library's number stands for.
+    pub(crate) fn accepted(number: u32) -> Result<(), Refusal> {
+        if number == 0 {
+            return Ok(());
+        }
+        let refusal = Refusal::ALL.into_iter().find(|r| r.number() == number);
+        // The contracts give no other number, so this shows a library newer than this crate.
+        Err(refusal.unwrap_or_else(|| panic!("no refusal has the number {number}")))
+    }
+}
+
+impl fmt::Display for Refusal {
+    fn fmt(&self, f: &mut fmt::Formatter<'_>) -> fmt::Result {
+        let (what, limits, unit) = match self {
+            Refusal::KeyLength => ("the key must be", KEY_LENGTHS, " bytes long"),
+            Refusal::PasswordLength => ("the password must be", PASSWORD_LENGTHS, " bytes long"),
+            Refusal::SaltLength => ("the salt must be", SALT_LENGTHS, " bytes long"),
+            Refusal::TimeCost => ("the time cost T must be", TIME_COSTS, ""),
+            Refusal::Rows => ("the number of rows R must be", ROWS, ""),
+            Refusal::Columns => ("the number of columns C must be", COLUMNS, ""),
+            Refusal::MatrixWords => {
+                return f.write_str("the matrix must have at least 12*R*C words");
+            }
+            Refusal::RecordWords => {
+                return f.write_str("the record must have at least R*T*(2+2*C) words");
+            }
+            Refusal::WalkRow => return f.write_str("row0 must be 3 to R-1"),
+        };
+        write!(f, "{what} {} to {}{unit}", limits.start(), limits.end())
+    }
+}
+
+impl std::error::Error for Refusal {}

@@ -1,0 +1,171 @@
+//! The crate's constants and sizes against what the library accepts, and the refusals' words.
+
+use lyra2::{
+    check, cost, derive, derive_recorded, walk, Lengths, Parameters, Refusal, COLUMNS, KEY_LENGTHS,
+    PASSWORD_LENGTHS, ROWS, SALT_LENGTHS, TIME_COSTS,
+};
+use std::collections::BTreeSet;
+use std::ops::RangeInclusive;
+
+const LENGTHS: Lengths = Lengths {
+    key: 32,
+    password: 31,
+    salt: 8,
+};
+const SMALLEST: Parameters = Parameters {
+    time: 1,
+    rows: 3,
+    columns: 1,
+};
+
+/// The numbers within the limits, and none beside them, must be accepted by the library.
+fn limits_hold(
+    limits: RangeInclusive<usize>,
+    refusal: Refusal,
+    ask: impl Fn(usize) -> Result<lyra2::Counts, Refusal>,
+) {
+    for number in [*limits.start(), *limits.end()] {
+        assert!(ask(number).is_ok(), "{refusal:?}: {number}");
+    }
+    for number in [limits.end() + 1, usize::MAX] {
+        assert_eq!(ask(number), Err(refusal), "{number}");
+    }
+    if let Some(below) = limits.start().checked_sub(1) {
+        assert_eq!(ask(below), Err(refusal), "{below}");
+    }
+}
+
+#[test]
+fn the_named_limits_are_the_librarys() {
+    let lengths = |key, password, salt| Lengths {
+        key,
+        password,
+        salt,
+    };
+    let of = |time, rows, columns| Parameters {
+        time,
+        rows,
+        columns,
+    };
+    limits_hold(KEY_LENGTHS, Refusal::KeyLength, |n| {
+        cost(lengths(n, 31, 8), SMALLEST)
+    });
+    limits_hold(PASSWORD_LENGTHS, Refusal::PasswordLength, |n| {
+        cost(lengths(32, n, 8), SMALLEST)
+    });
+    limits_hold(SALT_LENGTHS, Refusal::SaltLength, |n| {
+        cost(lengths(32, 31, n), SMALLEST)
+    });
+    limits_hold(TIME_COSTS, Refusal::TimeCost, |n| {
+        cost(LENGTHS, of(n, 3, 1))
+    });
+    limits_hold(ROWS, Refusal::Rows, |n| cost(LENGTHS, of(1, n, 1)));
+    limits_hold(COLUMNS, Refusal::Columns, |n| cost(LENGTHS, of(1, 3, n)));
+}
+
+#[test]
+fn buffers_of_the_named_sizes_are_accepted_and_shorter_ones_are_not() {
+    for (time, rows, columns) in [(1, 3, 1), (2, 5, 7), (255, 3, 2), (1, 300, 16)] {
+        let parameters = Parameters {
+            time,
+            rows,
+            columns,
+        };
+        let mut matrix = vec![7; parameters.matrix_words().expect("a small matrix")];
+        let mut record = vec![7; parameters.record_words().expect("a small record")];
+        let (words, mut key) = (matrix.len(), [7; 32]);
+        let mut derive = |matrix: &mut [u64], record: &mut [u64]| {
+            derive_recorded(b"", b"saltsalt", parameters, &mut key, matrix, record)
+        };
+        let short_record = &mut record[1..];
+        assert_eq!(
+            derive(&mut matrix, short_record),
+            Err(Refusal::RecordWords),
+            "{parameters:?}"
+        );
+        let short_matrix = derive(&mut matrix[1..], &mut record);
+        assert_eq!(short_matrix, Err(Refusal::MatrixWords), "{parameters:?}");
+        assert!(matrix.iter().chain(&record).all(|&word| word == 7));
+        assert!(derive(&mut matrix, &mut record).is_ok(), "{parameters:?}");
+        assert_eq!(words, 12 * rows * columns);
+    }
+}
+
+/// Every combination of small and large numbers, against the products in wider numbers.
+#[test]
+fn sizes_of_any_numbers() {
+    let numbers = [0, 1, 3, 255, 1 << 30, 1 << 32, 1 << 61, 1 << 63, usize::MAX];
+    let narrow = |size: Option<u128>| size.and_then(|size| usize::try_from(size).ok());
+    let (mut sizes, mut without_room) = (0, 0);
+    for time in numbers {
+        for (rows, columns) in numbers.iter().flat_map(|r| numbers.map(|c| (*r, c))) {
+            let parameters = Parameters {
+                time,
+                rows,
+                columns,
+            };
+            let [t, r, c] = [time, rows, columns].map(|number| number as u128);
+            let due = [(r * c).checked_mul(12), (r * t).checked_mul(2 + 2 * c)].map(narrow);
+            let found = [parameters.matrix_words(), parameters.record_words()];
+            assert_eq!(found, due, "{parameters:?}");
+            sizes += found.len();
+            without_room += found.iter().filter(|size| size.is_none()).count();
+        }
+    }
+    assert!(without_room > 100 && sizes - without_room > 100);
+}
+
+#[test]
+fn numbers_without_a_size_are_refused() {
+    let parameters = Parameters {
+        time: 1,
+        rows: usize::MAX,
+        columns: usize::MAX,
+    };
+    assert_eq!(parameters.matrix_words(), None);
+    let refused = Err(Refusal::Rows);
+    assert_eq!(cost(LENGTHS, parameters), refused);
+    let mut key = [1; 32];
+    assert_eq!(
+        derive(b"", b"saltsalt", parameters, &mut key, &mut []),
+        refused
+    );
+    let checked = check(b"", b"saltsalt", parameters, &key, &mut []);
+    assert_eq!(checked.map(|checked| checked.counts), refused);
+    assert_eq!(key, [1; 32]);
+}
+
+#[test]
+fn walk_questions() {
+    let row1 = |row0| walk(16, row0).expect("a row that Setup fills");
+    assert_eq!(
+        (8..16).map(row1).collect::<Vec<_>>(),
+        [0, 3, 6, 1, 4, 7, 2, 5]
+    );
+    assert_eq!(walk(2, 3), Err(Refusal::Rows));
+    assert_eq!(walk(8, 8), Err(Refusal::WalkRow));
+}
+
+#[test]
+fn refusals_are_numbered_from_1_to_9_and_each_has_its_sentence() {
+    let numbers = Refusal::ALL.map(Refusal::number);
+    assert_eq!(numbers, [1, 2, 3, 4, 5, 6, 7, 8, 9]);
+    let sentences = Refusal::ALL.map(|refusal| refusal.to_string());
+    let named = [
+        "1 to 1024",
+        "0 to 1024",
+        "8 to 64",
+        "T must be 1 to 255",
+        "R must be 3 to 16384",
+        "C must be 1 to 256",
+        "12*R*C words",
+        "R*T*(2+2*C) words",
+        "3 to R-1",
+    ];
+    for (sentence, limit) in sentences.iter().zip(named) {
+        assert!(sentence.contains(limit), "{sentence}");
+    }
+    assert_eq!(sentences.iter().collect::<BTreeSet<_>>().len(), 9);
+    let error: Box<dyn std::error::Error> = Refusal::WalkRow.into();
+    assert_eq!(error.to_string(), sentences[8]);
+}

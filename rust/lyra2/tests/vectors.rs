@@ -1,0 +1,145 @@
+//! The vectors file put to the safe crate.
+//!
+//! The runs of the second program's package look at the lent buffers too, so a refusal that changed one, or a
+//! word written past the used ones, fails here as a wrong answer does.
+
+use lyra2::{Lengths, Parameters};
+use lyra2_reference::vectors::{read, run, Case, Coverage, Question, Subject};
+use lyra2_reference::{Checked, Counts, Inputs, Recorded, Refusal};
+
+const FILE: &str = concat!(env!("CARGO_MANIFEST_DIR"), "/../../vectors/lyra2.txt");
+/// A matrix of more words belongs to the lines that lend 400 MB, which derivation-link's tests run.
+const MANY_WORDS: u64 = 1 << 24;
+
+struct Safe;
+
+fn size(number: u64) -> usize {
+    usize::try_from(number).expect("the library is built for numbers of 64 bits")
+}
+
+fn parameters(inputs: &Inputs) -> Parameters {
+    Parameters {
+        time: size(inputs.t),
+        rows: size(inputs.r),
+        columns: size(inputs.c),
+    }
+}
+
+fn refusal(refusal: lyra2::Refusal) -> Refusal {
+    Refusal::from_number(refusal.number().into()).expect("both packages have the same numbers")
+}
+
+fn counts(counts: lyra2::Counts) -> Counts {
+    Counts {
+        full: counts.full,
+        reduced: counts.reduced,
+        rounds: counts.rounds,
+    }
+}
+
+impl Subject for Safe {
+    fn derive_recorded(
+        &self,
+        inputs: &Inputs,
+        key: &mut [u8],
+        matrix: &mut [u64],
+        record: &mut [u64],
+    ) -> Option<Result<Recorded, Refusal>> {
+        let (password, salt) = (inputs.password, inputs.salt);
+        let answer =
+            lyra2::derive_recorded(password, salt, parameters(inputs), key, matrix, record);
+        let recorded = |answer: lyra2::Recorded| Recorded {
+            state: answer.state,
+            counts: counts(answer.counts),
+        };
+        Some(answer.map(recorded).map_err(refusal))
+    }
+
+    fn derive(
+        &self,
+        inputs: &Inputs,
+        key: &mut [u8],
+        matrix: &mut [u64],
+    ) -> Result<Counts, Refusal> {
+        let (password, salt) = (inputs.password, inputs.salt);
+        let answer = lyra2::derive(password, salt, parameters(inputs), key, matrix);
+        answer.map(counts).map_err(refusal)
+    }
+
+    fn check(
+        &self,
+        inputs: &Inputs,
+        stored: &[u8],
+        matrix: &mut [u64],
+    ) -> Result<Checked, Refusal> {
+        let (password, salt) = (inputs.password, inputs.salt);
+        let answer = lyra2::check(password, salt, parameters(inputs), stored, matrix);
+        let checked = |answer: lyra2::Checked| Checked {
+            matches: answer.same,
+            counts: counts(answer.counts),
+        };
+        answer.map(checked).map_err(refusal)
+    }
+
+    fn cost(&self, given: &lyra2_reference::Parameters) -> Result<Counts, Refusal> {
+        let lengths = Lengths {
+            key: size(given.key_len),
+            password: size(given.password_len),
+            salt: size(given.salt_len),
+        };
+        let parameters = Parameters {
+            time: size(given.t),
+            rows: size(given.r),
+            columns: size(given.c),
+        };
+        lyra2::cost(lengths, parameters)
+            .map(counts)
+            .map_err(refusal)
+    }
+
+    fn walk(&self, r: u64, row0: u64) -> Result<u64, Refusal> {
+        lyra2::walk(size(r), size(row0))
+            .map(|row1| row1 as u64)
+            .map_err(refusal)
+    }
+}
+
+fn is_wanted(case: &Case) -> bool {
+    match &case.question {
+        Question::DeriveRecorded { given, .. }
+        | Question::Derive { given, .. }
+        | Question::Check { given, .. } => given.matrix_words <= MANY_WORDS,
+        Question::Cost(_) | Question::Walk { .. } => true,
+        // The walk program has a test of its own.
+        Question::WalkProgram { .. } => false,
+    }
+}
+
+#[test]
+fn every_line_but_the_largest_matrices_and_the_walk_program() {
+    let file = std::fs::read(FILE).expect("the repository has its vectors file");
+    let mut lines = read(&file).expect("the vectors file can be read");
+    let all = lines.len();
+    lines.retain(|(_, case)| is_wanted(case));
+    for (line, case) in &lines {
+        let outcome = run::check_case(&Safe, case);
+        assert_eq!(outcome, Ok(Coverage::Whole), "line {line}");
+    }
+    assert_eq!(all - lines.len(), 77 + 4);
+    assert!(lines.len() >= 2100);
+}
+
+/// The crate's documentation shows the first bytes of this key.
+#[test]
+fn the_documented_key_is_the_second_programs() {
+    let inputs = Inputs {
+        password: b"password",
+        salt: b"saltsalt",
+        t: 1,
+        r: 64,
+        c: 16,
+    };
+    let mut key = [0; 32];
+    lyra2_reference::derive(&inputs, &mut key, &mut [0; 12 * 64 * 16]).expect("no check refuses");
+    assert_eq!(key[..4], [0xf0, 0x66, 0xef, 0xe4]);
+}
