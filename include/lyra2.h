@@ -57,7 +57,7 @@ extern "C" {
  * The words of the used matrix and of the used record, which are the least to lend. Within the limits they are at most
  * 50,331,648 and 2,147,450,880; outside the limits the products may overflow and mean nothing.
  */
-#define LYRA2_MATRIX_WORDS(rows, columns) (UINT64_C(12) * (rows) * (columns))
+#define LYRA2_MATRIX_WORDS(rows, columns) (UINT64_C(1) * LYRA2_CELL_WORDS * (rows) * (columns))
 #define LYRA2_RECORD_WORDS(time, rows, columns) (UINT64_C(1) * (rows) * (time) * (UINT64_C(2) * (columns) + 2))
 
 /* The refusals. The recorded derivation has 1 to 8, derivation and check 1 to 7, cost 1 to 6, walk 5 and 9. */

@@ -42,12 +42,9 @@ static bool has(int fault, bool condition)
 uint32_t __wrap_lyra2_derive(DERIVE_PARAMETERS, uint64_t *counts)
 {
     volatile uint8_t seen = 0;
-    uint64_t before = has(22, matrix_words > 0) ? matrix[0] : 0;
+    uint64_t before = has(22, columns > 0 && matrix_words >= 36) ? matrix[35] : 0;
     if (has(20, key_len == 0))
         seen = salt[0];
-    if (has(21, password_len > 0))
-        seen = password[password_len];
-    (void)seen;
     if (has(1, password_len == LYRA2_PASSWORD_MAX + 1))
         password_len--;
     if (has(2, salt_len == LYRA2_SALT_MIN))
@@ -68,8 +65,11 @@ uint32_t __wrap_lyra2_derive(DERIVE_PARAMETERS, uint64_t *counts)
         key[0] ^= 1;
     if (has(9, accepted))
         matrix[LYRA2_MATRIX_WORDS(rows, columns) - 1] ^= 1;
+    if (has(21, accepted))
+        seen = password[password_len];
     if (has(22, accepted))
         key[0] ^= (uint8_t)before;
+    (void)seen;
     return answer;
 }
 
