@@ -60,10 +60,13 @@ static void take_all_back(struct memory *m)
 /* Whether memcheck holds every bit for never written, or for made from one that was not. */
 static int is_unwritten(const void *memory, size_t bytes)
 {
-    uint8_t bits;
-    for (size_t i = 0; i < bytes; i++)
-        if (VALGRIND_GET_VBITS((const uint8_t *)memory + i, &bits, 1) != 1 || bits != 0xff)
+    uint8_t bits[256], none[256];
+    memset(none, 0xff, sizeof none);
+    for (size_t i = 0; i < bytes; i += sizeof bits) {
+        size_t piece = bytes - i < sizeof bits ? bytes - i : sizeof bits;
+        if (VALGRIND_GET_VBITS((const uint8_t *)memory + i, bits, piece) != 1 || memcmp(bits, none, piece) != 0)
             return 0;
+    }
     return 1;
 }
 
