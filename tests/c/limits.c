@@ -167,6 +167,23 @@ static void require_own_sentences(void)
                 fail("%u and %u have the same sentence", i, j);
 }
 
+/* What is only read may overlap: the key is that of the same bytes apart. A stored key in the password is a wrong one. */
+static void require_overlap(void)
+{
+    uint8_t bytes[64], password[40], salt[16], key[32];
+    uint64_t matrix[LYRA2_MATRIX_WORDS(3, 1)], counts[LYRA2_COUNTS];
+    uint32_t right = 0, wrong = 1;
+    for (size_t i = 0; i < sizeof bytes; i++)
+        bytes[i] = (uint8_t)(i * i);
+    memcpy(password, bytes, sizeof password);
+    memcpy(salt, bytes + 32, sizeof salt);
+    if (lyra2_derive(password, 40, salt, 16, 1, 3, 1, key, 32, matrix, 36, counts) != LYRA2_ACCEPTED
+        || lyra2_check(bytes, 40, bytes + 32, 16, 1, 3, 1, key, 32, matrix, 36, &right, counts) != LYRA2_ACCEPTED
+        || lyra2_check(bytes, 40, bytes + 32, 16, 1, 3, 1, bytes + 4, 32, matrix, 36, &wrong, counts) != LYRA2_ACCEPTED
+        || right != 1 || wrong != 0)
+        fail("overlap: the check said %u of the key and %u of other bytes", right, wrong);
+}
+
 int main(void)
 {
     for (size_t i = 0; i < sizeof limits / sizeof *limits; i++)
@@ -178,6 +195,7 @@ int main(void)
     require_least_words(1, LYRA2_ROWS_MAX, 2);
     require_walk_limits();
     require_own_sentences();
+    require_overlap();
     printf("limits of the header: %zu calls\n", calls_made);
     return 0;
 }
