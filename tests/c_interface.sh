@@ -1,6 +1,6 @@
 #!/usr/bin/env bash
 # The C interface from C: what the archive exports and needs, the header's limits, the refusals in pairs, the stack and
-# the vectors; and wrong vectors and faulty libraries, which these tests have to find.
+# the vectors; and wrong headers, wrong vectors and faulty libraries, which these tests have to find.
 set -eu
 cd "$(dirname "$0")/.."
 . tests/c/build.sh
@@ -30,6 +30,35 @@ for op in derive_recorded derive check cost walk; do
     grep -qE " $lines $op( lines|,)" "$work/ran" || { echo "not all $lines lines of $op were run"; exit 1; }
 done
 
+# ---- wrong headers: a constant or a sentence changed
+mkdir "$work/include"
+headers=0
+while read -r edit; do
+    sed "$edit" include/lyra2.h >"$work/include/lyra2.h"
+    ! cmp -s include/lyra2.h "$work/include/lyra2.h" || { echo "no header to spoil: $edit"; exit 1; }
+    cc -std=c99 -I"$work/include" tests/c/{limits,calls,lent}.c "$library" -o "$work/wrong"
+    ! "$work/wrong" >"$work/log" 2>&1 || { echo "a wrong header passes: $edit"; exit 1; }
+    grep -q '^FAILED: ' "$work/log" || { cat "$work/log"; exit 1; }
+    headers=$((headers + 1))
+done <<'END'
+s/KEY_MIN 1/KEY_MIN 2/
+s/KEY_MAX 1024/KEY_MAX 1023/
+s/PASSWORD_MAX 1024/PASSWORD_MAX 1025/
+s/SALT_MIN 8/SALT_MIN 9/
+s/SALT_MAX 64/SALT_MAX 65/
+s/TIME_MIN 1/TIME_MIN 0/
+s/TIME_MAX 255/TIME_MAX 256/
+s/ROWS_MIN 3/ROWS_MIN 2/
+s/ROWS_MAX 16384/ROWS_MAX 16383/
+s/COLUMNS_MIN 1/COLUMNS_MIN 2/
+s/COLUMNS_MAX 256/COLUMNS_MAX 255/
+s/ROW0_MIN 3/ROW0_MIN 4/
+s/CELL_WORDS 12/CELL_WORDS 11/
+s/(columns) + 2))/(columns) + 1))/
+s/REFUSED_ROWS = 5/REFUSED_ROWS = 6/; s/REFUSED_COLUMNS = 6/REFUSED_COLUMNS = 5/
+s/8 to 64 bytes/8 to 65 bytes/
+END
+
 # ---- wrong vectors: the first accepted line of an operation with one field spoilt
 wrong=0
 for spoilt in derive_recorded:{key,state,full,reduced,rounds,matrix_sum,record_sum,matrix,record} derive:{key,matrix_sum} \
@@ -58,4 +87,4 @@ is_found() { # FAULT
 for fault in {1..19}; do
     is_found "$fault" || { echo "fault $fault is not found"; exit 1; }
 done
-echo "C interface: $(sed 's/^vectors: //' "$work/ran"); $wrong wrong lines and $fault faulty libraries were found"
+echo "C interface: $(sed 's/^vectors: //' "$work/ran"); $headers wrong headers, $wrong wrong lines and $fault faulty libraries were found"

@@ -27,7 +27,7 @@ memcheck "$work/vectors" "$work/small"
 # ---- faulty libraries, and what is said of each
 report() { # FAULT
     compile_fault "$1"
-    cc "$wrapped" "$work"/{memcheck,calls,lent,faulty}.o "$library" -o "$work/faulty"
+    cc "$wrapped" "$work"/{memcheck,calls,lent,faulty}.o "$library" -o "$work/faulty" || exit 1
     memcheck "$work/faulty" 2>&1 && echo 'nothing is found'
 }
 same 'the wrapped library without a fault' 'nothing is found' "$(report 0 | tail -n 1)"
