@@ -6,7 +6,7 @@
  * Written       Accepted: what the declaration says, and nothing else. Refused: nothing, and nothing lent is read.
  * Before        What a call writes may hold anything beforehand. No answer depends on it.
  * Pointers      Never null, not even with a length of 0, and good for as many elements as the length says.
- *               64-bit words lie at addresses that 8 divides, `same` at one that 4 divides, bytes anywhere.
+ *               Words and `row1` lie at addresses that 8 divides, `same` at one that 4 divides, bytes anywhere.
  * Overlap       What a call writes overlaps nothing else that it is lent. Password, salt and a stored key may overlap.
  * Threads       Any number of calls at once, each with its own memory to write. Nobody else writes what a call is lent.
  * Time          Depends on the lengths and numbers, and on the rows and columns that the visits pick, which in Lyra2

@@ -167,7 +167,7 @@ static void require_own_sentences(void)
                 fail("%u and %u have the same sentence", i, j);
 }
 
-/* What is only read may overlap: the key is that of the same bytes apart. A stored key in the password is a wrong one. */
+/* What is only read may overlap: the key is that of the same bytes apart. Bytes of the password are a wrong key. */
 static void require_overlap(void)
 {
     uint8_t bytes[64], password[40], salt[16], key[32];

@@ -1,6 +1,6 @@
 /*
- * Calls under valgrind's memcheck, which sees every byte that they read or write. All memory has exactly the length that
- * is lent; what a call writes is marked as never written, so an answer that depended on it would be marked too.
+ * Calls under valgrind's memcheck, which sees every byte that they read or write. All memory has exactly the length
+ * that is lent; what a call writes is marked as never written, so an answer that depended on it would be marked too.
  */
 #include "calls.h"
 

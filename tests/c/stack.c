@@ -26,16 +26,16 @@ static void call(void)
     size_t matrix_words = sizeof matrix / sizeof *matrix, record_words = sizeof record / sizeof *record;
     switch (operation) {
     case 0:
-        answer = lyra2_derive(password, sizeof password, salt, sizeof salt, TIME, ROWS, COLUMNS, key, sizeof key, matrix,
-                              matrix_words, counts);
+        answer = lyra2_derive(password, sizeof password, salt, sizeof salt, TIME, ROWS, COLUMNS, key, sizeof key,
+                              matrix, matrix_words, counts);
         break;
     case 1:
-        answer = lyra2_derive_recorded(password, sizeof password, salt, sizeof salt, TIME, ROWS, COLUMNS, key, sizeof key,
-                                       matrix, matrix_words, record, record_words, state, counts);
+        answer = lyra2_derive_recorded(password, sizeof password, salt, sizeof salt, TIME, ROWS, COLUMNS, key,
+                                       sizeof key, matrix, matrix_words, record, record_words, state, counts);
         break;
     case 2:
-        answer = lyra2_check(password, sizeof password, salt, sizeof salt, TIME, ROWS, COLUMNS, key, sizeof key, matrix,
-                             matrix_words, &same, counts);
+        answer = lyra2_check(password, sizeof password, salt, sizeof salt, TIME, ROWS, COLUMNS, key, sizeof key,
+                             matrix, matrix_words, &same, counts);
         break;
     case 3:
         answer = lyra2_cost(sizeof key, sizeof password, sizeof salt, TIME, ROWS, COLUMNS, counts);
