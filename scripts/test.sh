@@ -44,6 +44,8 @@ need() { # COMMAND PACKAGE
 need b2sum coreutils
 need cc gcc
 need script bsdutils
+need g++ g++
+need valgrind valgrind
 command -v rt >/dev/null 2>&1 || { echo "rt, of the Rattle kit, is missing"; exit 2; }
 command -v cargo >/dev/null 2>&1 || { echo "cargo is missing"; exit 2; }
 
@@ -79,7 +81,7 @@ if [ "$n" -eq 0 ] || { [ "$status" -ne 0 ] && [ "$m" -eq 0 ]; }; then
     failed=$((failed + 1))
 fi
 
-# ---- what the README shows
+# ---- what the README shows, the walk program, and the C interface
 for test in tests/*.sh; do
     [ -e "$test" ] || continue
     step "$test" bash "$test"

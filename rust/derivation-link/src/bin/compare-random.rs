@@ -1,9 +1,13 @@
 //! Holds the proved library against the second program on random inputs, for runs longer than the tests.
+//!
+//! `compare-random SEED COUNT` makes the comparisons of COUNT seeds from SEED on. A line every ten seconds says
+//! how far it is and from which seed to go on; a failure names the seed that repeats it.
 
 #![forbid(unsafe_code)]
 
 use derivation_link::compare::compare;
 use derivation_link::Proved;
+use std::panic::catch_unwind;
 use std::process::ExitCode;
 use std::time::{Duration, Instant};
 
@@ -36,19 +40,34 @@ fn run(first_seed: u64, count: u64) -> Result<String, String> {
     let (mut accepted, mut refused) = (0u64, 0u64);
     for done in 0..count {
         let seed = first_seed.wrapping_add(done);
-        let compared = compare(&Proved, seed)
-            .map_err(|what| format!("{what}; `compare-random {seed} 1` repeats it"))?;
-        match compared.answer {
-            Ok(_) => accepted += 1,
-            Err(_) => refused += 1,
-        }
         if began.elapsed() >= next_line {
             next_line += PAUSE;
-            let seconds = began.elapsed().as_secs();
-            eprintln!("{} of {count} compared, {seconds} s", done + 1);
+            let rate = rate(done, began);
+            eprintln!("{done} of {count} compared, {rate} a second; the next seed is {seed}");
+        }
+        if compare_seed(seed)? {
+            accepted += 1;
+        } else {
+            refused += 1;
         }
     }
+    let rate = rate(count, began);
     Ok(format!(
-        "seeds from {first_seed}: {accepted} accepted and {refused} refused calls agree"
+        "{count} seeds from {first_seed}: {accepted} accepted and {refused} refused calls agree, {rate} a second"
     ))
+}
+
+/// Makes the comparison of a seed and tells whether the call was accepted. Where the library breaks a promise
+/// that its caller asserts, that panics, and the seed has to be named all the same.
+fn compare_seed(seed: u64) -> Result<bool, String> {
+    let repeat = |what: &str| format!("{what}; `compare-random {seed} 1` repeats it");
+    match catch_unwind(|| compare(&Proved, seed)) {
+        Ok(Ok(compared)) => Ok(compared.answer.is_ok()),
+        Ok(Err(what)) => Err(repeat(&what)),
+        Err(_) => Err(repeat("the call broke an assertion")),
+    }
+}
+
+fn rate(done: u64, began: Instant) -> u64 {
+    (done as f64 / began.elapsed().as_secs_f64()) as u64
 }

@@ -1,0 +1,151 @@
+/*
+ * Lyra2 key derivation: the C interface of the proved library (C99, C++11; link libderivation_export.a).
+ *
+ * Answer        Every call returns LYRA2_ACCEPTED or the number of a refusal. Of several that apply it is the lowest.
+ * Memory        The caller lends all of it. There is no heap and no global state, nothing to set up, nothing to free.
+ * Written       Accepted: what the declaration says, and nothing else. Refused: nothing, and nothing lent is read.
+ * Before        What a call writes may hold anything beforehand. No answer depends on it.
+ * Pointers      Never null, not even with a length of 0, and good for as many elements as the length says.
+ *               Words and `row1` lie at addresses that 8 divides, `same` at one that 4 divides, bytes anywhere.
+ * Overlap       What a call writes overlaps nothing else that it is lent. Password, salt and a stored key may overlap.
+ * Threads       Any number of calls at once, each with its own memory to write. Nobody else writes what a call is lent.
+ * Time          Depends on the lengths and numbers, and on the rows and columns that the visits pick, which in Lyra2
+ *               depend on the password. The check compares every byte, whatever it finds.
+ * Secrets       Matrix, record and state are made from the password. Whoever has them can try guesses with them, and
+ *               all three together give the key. Wipe them as you wipe the key and the password. A call does not wipe
+ *               the stack that it used, less than LYRA2_STACK_BYTES, which may still hold words of the key.
+ */
+#ifndef LYRA2_H
+#define LYRA2_H
+
+#include <stddef.h>
+#include <stdint.h>
+
+#if SIZE_MAX != UINT64_MAX
+#error "lyra2.h: the library takes a size_t of 64 bits"
+#endif
+
+#ifdef __cplusplus
+extern "C" {
+#endif
+
+/* The limits, both ends included. Time is T of the Lyra2 guide, rows are R and columns are C. */
+#define LYRA2_KEY_MIN 1 /* bytes */
+#define LYRA2_KEY_MAX 1024
+#define LYRA2_PASSWORD_MAX 1024
+#define LYRA2_SALT_MIN 8
+#define LYRA2_SALT_MAX 64
+#define LYRA2_TIME_MIN 1
+#define LYRA2_TIME_MAX 255
+#define LYRA2_ROWS_MIN 3
+#define LYRA2_ROWS_MAX 16384
+#define LYRA2_COLUMNS_MIN 1
+#define LYRA2_COLUMNS_MAX 256
+#define LYRA2_ROW0_MIN 3 /* the walk question; the most is rows - 1 */
+
+#define LYRA2_STATE_WORDS 16
+#define LYRA2_CELL_WORDS 12
+#define LYRA2_STACK_BYTES 2048
+
+/* The counts of a call, by their place. */
+#define LYRA2_COUNTS 3
+#define LYRA2_FULL_CALLS 0
+#define LYRA2_REDUCED_CALLS 1
+#define LYRA2_ROUNDS 2
+
+/*
+ * The words of the used matrix and of the used record, which are the least to lend. Within the limits they are at most
+ * 50,331,648 and 2,147,450,880; outside the limits the products may overflow and mean nothing.
+ */
+#define LYRA2_MATRIX_WORDS(rows, columns) (UINT64_C(1) * LYRA2_CELL_WORDS * (rows) * (columns))
+#define LYRA2_RECORD_WORDS(time, rows, columns) (UINT64_C(1) * (rows) * (time) * (UINT64_C(2) * (columns) + 2))
+
+/* The refusals. The recorded derivation has 1 to 8, derivation and check 1 to 7, cost 1 to 6, walk 5 and 9. */
+enum lyra2_refusal {
+    LYRA2_ACCEPTED = 0,
+    LYRA2_REFUSED_KEY = 1,
+    LYRA2_REFUSED_PASSWORD = 2,
+    LYRA2_REFUSED_SALT = 3,
+    LYRA2_REFUSED_TIME = 4,
+    LYRA2_REFUSED_ROWS = 5,
+    LYRA2_REFUSED_COLUMNS = 6,
+    LYRA2_REFUSED_MATRIX = 7,
+    LYRA2_REFUSED_RECORD = 8,
+    LYRA2_REFUSED_ROW0 = 9
+};
+
+/* What an answer says, in words. */
+static inline const char *lyra2_sentence(uint32_t answer)
+{
+    switch (answer) {
+    case LYRA2_ACCEPTED: return "the call was carried out";
+    case LYRA2_REFUSED_KEY: return "the key has to have 1 to 1024 bytes";
+    case LYRA2_REFUSED_PASSWORD: return "the password may have at most 1024 bytes";
+    case LYRA2_REFUSED_SALT: return "the salt has to have 8 to 64 bytes";
+    case LYRA2_REFUSED_TIME: return "the time cost has to be 1 to 255";
+    case LYRA2_REFUSED_ROWS: return "the number of rows has to be 3 to 16384";
+    case LYRA2_REFUSED_COLUMNS: return "the number of columns has to be 1 to 256";
+    case LYRA2_REFUSED_MATRIX: return "the lent matrix is too short for the rows and columns";
+    case LYRA2_REFUSED_RECORD: return "the lent record is too short for the time cost, rows and columns";
+    case LYRA2_REFUSED_ROW0: return "Setup revisits a row only for row 3 to the last";
+    default: return "no answer has this number";
+    }
+}
+
+/* A refusal that nobody looks at leaves a key that nobody wrote. */
+#if defined(__GNUC__)
+#define LYRA2_ANSWER __attribute__((warn_unused_result))
+#else
+#define LYRA2_ANSWER
+#endif
+
+/* Derives a key of key_len bytes. Writes the key, the used matrix and the counts. */
+LYRA2_ANSWER uint32_t lyra2_derive(
+    const uint8_t *password, size_t password_len,
+    const uint8_t *salt, size_t salt_len,
+    size_t time, size_t rows, size_t columns,
+    uint8_t *key, size_t key_len,
+    uint64_t *matrix, size_t matrix_words,
+    uint64_t counts[LYRA2_COUNTS]);
+
+/*
+ * The same key and matrix, with a record of the visits: row0, row1, and for each column col0 and col1. Writes the key,
+ * the used matrix, the used record, the state after the last visit and the counts.
+ */
+LYRA2_ANSWER uint32_t lyra2_derive_recorded(
+    const uint8_t *password, size_t password_len,
+    const uint8_t *salt, size_t salt_len,
+    size_t time, size_t rows, size_t columns,
+    uint8_t *key, size_t key_len,
+    uint64_t *matrix, size_t matrix_words,
+    uint64_t *record, size_t record_words,
+    uint64_t state[LYRA2_STATE_WORDS],
+    uint64_t counts[LYRA2_COUNTS]);
+
+/*
+ * Tells whether the stored bytes are the key of their length: *same becomes 1 or 0. Writes the used matrix too, as
+ * lyra2_derive does, and the counts. After a refusal *same is what it was, so set it to 0 before.
+ */
+LYRA2_ANSWER uint32_t lyra2_check(
+    const uint8_t *password, size_t password_len,
+    const uint8_t *salt, size_t salt_len,
+    size_t time, size_t rows, size_t columns,
+    const uint8_t *stored, size_t stored_len,
+    uint64_t *matrix, size_t matrix_words,
+    uint32_t *same,
+    uint64_t counts[LYRA2_COUNTS]);
+
+/* Foretells the counts of a derivation or a check from the lengths and numbers alone. Writes the counts. */
+LYRA2_ANSWER uint32_t lyra2_cost(
+    size_t key_len, size_t password_len, size_t salt_len,
+    size_t time, size_t rows, size_t columns,
+    uint64_t counts[LYRA2_COUNTS]);
+
+/* Tells which row Setup revisits while it fills row0. Writes *row1. */
+LYRA2_ANSWER uint32_t lyra2_walk(size_t rows, size_t row0, size_t *row1);
+
+#ifdef __cplusplus
+}
+#endif
+
+#endif

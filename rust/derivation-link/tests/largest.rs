@@ -1,0 +1,56 @@
+//! The largest matrix, R = 16,384 and C = 256, about 400 MB: the plain derivation and the check against the second
+//! program, word for word. The vectors have the recorded derivation of this size, with a checksum of its matrix.
+
+use derivation_link::Proved;
+use lyra2_reference::vectors::{Reference, Subject};
+use lyra2_reference::{Checked, Counts, Inputs};
+
+const WORDS: usize = 12 * 16_384 * 256;
+/// Words lent past the used ones.
+const SPARE: usize = 3;
+/// What the lent words hold before; the second program's hold something else.
+const BEFORE: u64 = 0xa5a5_a5a5_a5a5_a5a5;
+
+const INPUTS: Inputs = Inputs {
+    password: b"a password for the largest matrix",
+    salt: b"and its salt",
+    t: 1,
+    r: 16_384,
+    c: 256,
+};
+
+/// The first place where a matrix is not what is due, the words past the used ones included.
+fn differing(matrix: &[u64], due: &[u64]) -> Option<usize> {
+    let (used, spare) = matrix.split_at(WORDS);
+    let place = used.iter().zip(due).position(|(found, due)| found != due);
+    let changed = spare.iter().position(|&word| word != BEFORE);
+    place.or(changed.map(|place| WORDS + place))
+}
+
+#[test]
+fn plain_derivation_and_check_of_the_largest_matrix() {
+    let mut due_key = [0; 100];
+    let mut due_matrix = vec![0; WORDS];
+    let counts = Reference.derive(&INPUTS, &mut due_key, &mut due_matrix);
+    let due_counts = Counts {
+        full: 2 + 2,
+        reduced: 2 * 16_384 * 256,
+        rounds: 12 * 4 + 2 * 16_384 * 256,
+    };
+    assert_eq!(counts, Ok(due_counts));
+
+    let mut key = [0xa5; 100];
+    let mut matrix = vec![BEFORE; WORDS + SPARE];
+    assert_eq!(Proved.derive(&INPUTS, &mut key, &mut matrix), counts);
+    assert_eq!(key, due_key);
+    assert_eq!(differing(&matrix, &due_matrix), None);
+
+    for (flipped, matches) in [(0, true), (0x80, false)] {
+        matrix.fill(BEFORE);
+        key[99] ^= flipped;
+        let answer = Proved.check(&INPUTS, &key, &mut matrix);
+        let counts = due_counts;
+        assert_eq!(answer, Ok(Checked { matches, counts }));
+        assert_eq!(differing(&matrix, &due_matrix), None);
+    }
+}

@@ -1,0 +1,26 @@
+# What the scripts that test the C interface share: how its programs are built, and libraries with a fault.
+# To be sourced at the root of the repository; leaves the folder $work for the objects and programs.
+
+library=target/staticlib/libderivation_export.a
+[ -e "$library" ] || { echo "$library is missing: run 'rt staticlib derivation_export' first"; exit 1; }
+work=$(mktemp -d)
+trap 'rm -rf "$work"' EXIT
+flags=(-std=c99 -O2 -Wall -Wextra -pedantic -Werror -Iinclude)
+wrapped=-Wl,--wrap=lyra2_derive,--wrap=lyra2_derive_recorded,--wrap=lyra2_check,--wrap=lyra2_cost,--wrap=lyra2_walk
+
+same() { # WHAT EXPECTED FOUND
+    [ "$2" = "$3" ] || { echo "$1: expected '$2', found '$3'"; exit 1; }
+}
+
+# Compiles sources of tests/c to objects.
+compile() { # NAME..
+    local name
+    for name in "$@"; do
+        cc "${flags[@]}" -c "tests/c/$name.c" -o "$work/$name.o"
+    done
+}
+
+# Compiles the faulty library to an object; `wrapped` is for the linker.
+compile_fault() { # FAULT
+    cc "${flags[@]}" -DFAULT="$1" -c tests/c/faulty.c -o "$work/faulty.o" || exit 1
+}

@@ -1,0 +1,110 @@
+/* Calls whose lent memory lies between guards. */
+#include "calls.h"
+
+#include <stdbool.h>
+
+const char *const operation_names[OPERATIONS] = {"derive_recorded", "derive", "check", "cost"};
+size_t calls_made;
+
+size_t used_matrix(const struct sizes *sizes)
+{
+    return LYRA2_MATRIX_WORDS(sizes->rows, sizes->columns);
+}
+
+size_t used_record(const struct sizes *sizes)
+{
+    return LYRA2_RECORD_WORDS(sizes->time, sizes->rows, sizes->columns);
+}
+
+struct sizes fitting(struct sizes sizes)
+{
+    sizes.matrix = used_matrix(&sizes);
+    sizes.record = used_record(&sizes);
+    return sizes;
+}
+
+/* Lends what an operation takes; what it does not take is lent too, and has to stay as it is. */
+static void lend_all(struct call *call, struct contents contents)
+{
+    const struct sizes *sizes = &call->sizes;
+    bool lends = call->operation != COST;
+    lend(&call->password, lends ? sizes->password : 0, 1, contents.password);
+    lend(&call->salt, lends ? sizes->salt : 0, 1, contents.salt);
+    lend(&call->key, lends ? sizes->key : 0, 1, contents.stored);
+    lend(&call->matrix, lends ? 8 * sizes->matrix : 0, 8, NULL);
+    lend(&call->record, call->operation == RECORDED ? 8 * sizes->record : 0, 8, NULL);
+    lend(&call->state, 8 * LYRA2_STATE_WORDS, 8, NULL);
+    lend(&call->counts, 8 * LYRA2_COUNTS, 8, NULL);
+    lend(&call->same, sizeof(uint32_t), 4, NULL);
+}
+
+static uint32_t ask(struct call *call)
+{
+    const struct sizes *n = &call->sizes;
+    const uint8_t *password = lent_part(&call->password), *salt = lent_part(&call->salt);
+    uint8_t *key = lent_part(&call->key);
+    uint64_t *matrix = lent_part(&call->matrix), *record = lent_part(&call->record);
+    uint64_t *state = lent_part(&call->state), *counts = lent_part(&call->counts);
+    switch (call->operation) {
+    case RECORDED:
+        return lyra2_derive_recorded(password, n->password, salt, n->salt, n->time, n->rows, n->columns, key, n->key,
+                                     matrix, n->matrix, record, n->record, state, counts);
+    case PLAIN:
+        return lyra2_derive(password, n->password, salt, n->salt, n->time, n->rows, n->columns, key, n->key, matrix,
+                            n->matrix, counts);
+    case CHECK:
+        return lyra2_check(password, n->password, salt, n->salt, n->time, n->rows, n->columns, key, n->key, matrix,
+                           n->matrix, lent_part(&call->same), counts);
+    default:
+        return lyra2_cost(n->key, n->password, n->salt, n->time, n->rows, n->columns, counts);
+    }
+}
+
+/* Nothing may have changed but what the operation writes when it is accepted. */
+static void require_all_kept(const struct call *call)
+{
+    bool accepted = call->answer == LYRA2_ACCEPTED;
+    bool recorded = accepted && call->operation == RECORDED;
+    bool derived = recorded || (accepted && call->operation == PLAIN);
+    bool walked = derived || (accepted && call->operation == CHECK);
+    bool checked = walked && !derived;
+    require_kept(&call->password, 0, "password");
+    require_kept(&call->salt, 0, "salt");
+    require_kept(&call->key, derived ? call->sizes.key : 0, "key");
+    require_kept(&call->matrix, walked ? 8 * used_matrix(&call->sizes) : 0, "matrix");
+    require_kept(&call->record, recorded ? 8 * used_record(&call->sizes) : 0, "record");
+    require_kept(&call->state, recorded ? 8 * LYRA2_STATE_WORDS : 0, "state");
+    require_kept(&call->counts, accepted ? 8 * LYRA2_COUNTS : 0, "counts");
+    require_kept(&call->same, checked ? sizeof(uint32_t) : 0, "same");
+}
+
+void make_call(struct call *call, enum operation operation, struct sizes sizes, struct contents contents)
+{
+    call->operation = operation;
+    call->sizes = sizes;
+    lend_all(call, contents);
+    call->answer = ask(call);
+    require_all_kept(call);
+    calls_made++;
+}
+
+void end_call(struct call *call)
+{
+    struct lent *all[] = {&call->password, &call->salt,  &call->key,    &call->matrix,
+                          &call->record,   &call->state, &call->counts, &call->same};
+    for (size_t i = 0; i < sizeof all / sizeof *all; i++)
+        take_back(all[i]);
+}
+
+uint32_t ask_walk(size_t rows, size_t row0, size_t *row1)
+{
+    struct lent place;
+    lend(&place, sizeof(size_t), 8, NULL);
+    uint32_t answer = lyra2_walk(rows, row0, lent_part(&place));
+    bool accepted = answer == LYRA2_ACCEPTED;
+    require_kept(&place, accepted ? sizeof(size_t) : 0, "row1");
+    *row1 = accepted ? *(size_t *)lent_part(&place) : SIZE_MAX;
+    take_back(&place);
+    calls_made++;
+    return answer;
+}

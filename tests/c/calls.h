@@ -1,0 +1,48 @@
+/* A call of the library in which everything that is lent lies between guards, which are looked at afterwards. */
+#ifndef CALLS_H
+#define CALLS_H
+
+#include "lent.h"
+#include "lyra2.h"
+
+enum operation { RECORDED, PLAIN, CHECK, COST, OPERATIONS };
+
+/* The numbers of a call. Matrix and record are in words, the lengths in bytes. */
+struct sizes {
+    size_t key, password, salt, time, rows, columns, matrix, record;
+};
+
+/* What a call reads. A null stands for the pattern of lent memory. */
+struct contents {
+    const uint8_t *password, *salt, *stored;
+};
+
+struct call {
+    enum operation operation;
+    struct sizes sizes;
+    struct lent password, salt, key, matrix, record, state, counts, same;
+    uint32_t answer;
+};
+
+extern const char *const operation_names[OPERATIONS];
+
+/* Lends what the operation takes, calls it, and requires that nothing changed but what the answer allows. */
+void make_call(struct call *call, enum operation operation, struct sizes sizes, struct contents contents);
+
+/* Gives back what was lent. */
+void end_call(struct call *call);
+
+/* The words that an accepted call uses. */
+size_t used_matrix(const struct sizes *sizes);
+size_t used_record(const struct sizes *sizes);
+
+/* The sizes with a matrix and a record that fit exactly. */
+struct sizes fitting(struct sizes sizes);
+
+/* The walk question; `row1` gets the answer, or SIZE_MAX where it is refused. */
+uint32_t ask_walk(size_t rows, size_t row0, size_t *row1);
+
+/* How many calls were made. */
+extern size_t calls_made;
+
+#endif

@@ -1,0 +1,138 @@
+/*
+ * A library with one fault, to see that the tests of the C interface find it: linked with --wrap, it stands between a
+ * test and the library. FAULT chooses the fault; 0 is none, and those from 20 on are seen by memcheck alone.
+ */
+#include "lyra2.h"
+
+#include <stdbool.h>
+#include <string.h>
+
+#define DERIVE_PARAMETERS                                                                                          \
+    const uint8_t *password, size_t password_len, const uint8_t *salt, size_t salt_len, size_t time, size_t rows, \
+        size_t columns, uint8_t *key, size_t key_len, uint64_t *matrix, size_t matrix_words
+#define DERIVE_VALUES password, password_len, salt, salt_len, time, rows, columns, key, key_len, matrix, matrix_words
+#define CHECK_PARAMETERS                                                                                           \
+    const uint8_t *password, size_t password_len, const uint8_t *salt, size_t salt_len, size_t time, size_t rows, \
+        size_t columns, const uint8_t *stored, size_t stored_len, uint64_t *matrix, size_t matrix_words,           \
+        uint32_t *same, uint64_t *counts
+#define CHECK_VALUES                                                                                               \
+    password, password_len, salt, salt_len, time, rows, columns, stored, stored_len, matrix, matrix_words, same, counts
+
+uint32_t __real_lyra2_derive(DERIVE_PARAMETERS, uint64_t *counts);
+uint32_t __wrap_lyra2_derive(DERIVE_PARAMETERS, uint64_t *counts);
+uint32_t __real_lyra2_derive_recorded(DERIVE_PARAMETERS, uint64_t *record, size_t record_words, uint64_t *state,
+                                      uint64_t *counts);
+uint32_t __wrap_lyra2_derive_recorded(DERIVE_PARAMETERS, uint64_t *record, size_t record_words, uint64_t *state,
+                                      uint64_t *counts);
+uint32_t __real_lyra2_check(CHECK_PARAMETERS);
+uint32_t __wrap_lyra2_check(CHECK_PARAMETERS);
+uint32_t __real_lyra2_cost(size_t key_len, size_t password_len, size_t salt_len, size_t time, size_t rows,
+                           size_t columns, uint64_t *counts);
+uint32_t __wrap_lyra2_cost(size_t key_len, size_t password_len, size_t salt_len, size_t time, size_t rows,
+                           size_t columns, uint64_t *counts);
+uint32_t __real_lyra2_walk(size_t rows, size_t row0, size_t *row1);
+uint32_t __wrap_lyra2_walk(size_t rows, size_t row0, size_t *row1);
+
+/* Whether the library has this fault, where the condition of the fault holds. */
+static bool has(int fault, bool condition)
+{
+    return FAULT == fault && condition;
+}
+
+uint32_t __wrap_lyra2_derive(DERIVE_PARAMETERS, uint64_t *counts)
+{
+    volatile uint8_t seen = 0;
+    uint64_t before = has(22, columns > 0 && matrix_words >= 36) ? matrix[35] : 0;
+    if (has(20, key_len == 0))
+        seen = salt[0];
+    if (has(1, password_len == LYRA2_PASSWORD_MAX + 1))
+        password_len--;
+    if (has(2, salt_len == LYRA2_SALT_MIN))
+        return LYRA2_REFUSED_SALT;
+    if (has(3, columns > LYRA2_COLUMNS_MAX && key_len > 0))
+        return LYRA2_REFUSED_COLUMNS;
+    uint32_t answer = __real_lyra2_derive(DERIVE_VALUES, counts);
+    bool accepted = answer == LYRA2_ACCEPTED;
+    if (has(4, accepted))
+        key[key_len] = 0;
+    if (has(5, accepted))
+        matrix[LYRA2_MATRIX_WORDS(rows, columns)] ^= 1;
+    if (has(6, !accepted))
+        memset(counts, 0, 8 * LYRA2_COUNTS);
+    if (has(7, accepted))
+        memset((uint8_t *)password, 0, password_len);
+    if (has(8, !accepted && key_len > 0))
+        key[0] ^= 1;
+    if (has(9, accepted))
+        matrix[LYRA2_MATRIX_WORDS(rows, columns) - 1] ^= 1;
+    if (has(21, accepted))
+        seen = password[password_len];
+    if (has(22, accepted))
+        key[0] ^= (uint8_t)before;
+    (void)seen;
+    return answer;
+}
+
+uint32_t __wrap_lyra2_derive_recorded(DERIVE_PARAMETERS, uint64_t *record, size_t record_words, uint64_t *state,
+                                      uint64_t *counts)
+{
+    uint32_t answer = __real_lyra2_derive_recorded(DERIVE_VALUES, record, record_words, state, counts);
+    bool accepted = answer == LYRA2_ACCEPTED;
+    if (has(10, accepted))
+        record[LYRA2_RECORD_WORDS(time, rows, columns)] ^= 1;
+    if (has(11, !accepted))
+        state[LYRA2_STATE_WORDS - 1] = 0;
+    if (has(12, answer == LYRA2_REFUSED_RECORD))
+        matrix[0] ^= 1;
+    if (has(13, accepted))
+        state[LYRA2_STATE_WORDS] = 0;
+    if (has(23, !accepted && record_words > 0))
+        *(volatile uint64_t *)record = *(volatile uint64_t *)record;
+    return answer;
+}
+
+/* Stops at the first byte that differs. */
+static uint32_t compare_early(const uint8_t *stored, const uint8_t *key, size_t length)
+{
+    for (size_t i = 0; i < length; i++)
+        if (stored[i] != key[i])
+            return 0;
+    return 1;
+}
+
+uint32_t __wrap_lyra2_check(CHECK_PARAMETERS)
+{
+    uint8_t key[LYRA2_KEY_MAX];
+    uint32_t answer = __real_lyra2_check(CHECK_VALUES);
+    bool accepted = answer == LYRA2_ACCEPTED;
+    if (has(14, !accepted))
+        *same = 0;
+    if (has(15, accepted))
+        *same = 0;
+    if (has(16, accepted))
+        *same = 1;
+    if (FAULT == 24 && accepted
+        && __real_lyra2_derive(password, password_len, salt, salt_len, time, rows, columns, key, stored_len, matrix,
+                               matrix_words, counts) == LYRA2_ACCEPTED)
+        *same = compare_early(stored, key, stored_len);
+    return answer;
+}
+
+uint32_t __wrap_lyra2_cost(size_t key_len, size_t password_len, size_t salt_len, size_t time, size_t rows,
+                           size_t columns, uint64_t *counts)
+{
+    uint32_t answer = __real_lyra2_cost(key_len, password_len, salt_len, time, rows, columns, counts);
+    if (has(17, answer == LYRA2_ACCEPTED))
+        counts[LYRA2_FULL_CALLS]++;
+    return answer;
+}
+
+uint32_t __wrap_lyra2_walk(size_t rows, size_t row0, size_t *row1)
+{
+    uint32_t answer = __real_lyra2_walk(rows, row0, row1);
+    if (has(18, answer != LYRA2_ACCEPTED))
+        *row1 = 0;
+    if (has(19, row0 == rows && rows == LYRA2_ROWS_MAX))
+        return LYRA2_ACCEPTED;
+    return answer;
+}

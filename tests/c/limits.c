@@ -1,0 +1,201 @@
+/* The header's limits, sizes and sentences are the library's own: each limit is accepted and one beyond it refused. */
+#include "calls.h"
+
+#include <stdio.h>
+#include <stdlib.h>
+#include <string.h>
+
+static const struct sizes usual = {32, 31, 8, 1, 3, 1, 36, 12};
+static const struct contents nothing = {NULL, NULL, NULL};
+
+/* Two calls left the same in a part that both wrote. */
+static void require_same(const struct lent *one, const struct lent *other, size_t bytes, const char *what)
+{
+    if (memcmp(lent_part(one), lent_part(other), bytes) != 0)
+        fail("%s: two operations differ", what);
+}
+
+/* The check says `due` of a stored key, and leaves matrix and counts as the derivation did. */
+static void require_check(const struct call *derived, const uint8_t *stored, uint32_t due)
+{
+    struct contents contents = {NULL, NULL, stored};
+    struct call check;
+    contents.password = lent_part(&derived->password);
+    contents.salt = lent_part(&derived->salt);
+    make_call(&check, CHECK, derived->sizes, contents);
+    if (check.answer != LYRA2_ACCEPTED || *(uint32_t *)lent_part(&check.same) != due)
+        fail("check: answer %u, same %u, where %u is due", check.answer, *(uint32_t *)lent_part(&check.same), due);
+    require_same(&check.matrix, &derived->matrix, 8 * used_matrix(&derived->sizes), "matrix of a check");
+    require_same(&check.counts, &derived->counts, 8 * LYRA2_COUNTS, "counts of a check");
+    end_call(&check);
+}
+
+/* Says yes to the key and no to it with a bit of the first, a middle or the last byte flipped. */
+static void require_checks(const struct call *derived)
+{
+    size_t length = derived->sizes.key;
+    size_t places[] = {0, length / 2, length - 1};
+    uint8_t *stored = allocate(length);
+    memcpy(stored, lent_part(&derived->key), length);
+    require_check(derived, stored, 1);
+    for (size_t i = 0; i < 3; i++) {
+        stored[places[i]] ^= (uint8_t)(1 << (i + length) % 8);
+        require_check(derived, stored, 0);
+        memcpy(stored, lent_part(&derived->key), length);
+    }
+    free(stored);
+}
+
+/* All operations accept the sizes, with matrix and record that fit exactly, and agree with one another. */
+static void require_accepted(struct sizes sizes)
+{
+    struct call recorded, plain, cost;
+    sizes = fitting(sizes);
+    make_call(&recorded, RECORDED, sizes, nothing);
+    struct contents contents = {lent_part(&recorded.password), lent_part(&recorded.salt), NULL};
+    make_call(&plain, PLAIN, sizes, contents);
+    make_call(&cost, COST, sizes, nothing);
+    if (recorded.answer != LYRA2_ACCEPTED || plain.answer != LYRA2_ACCEPTED || cost.answer != LYRA2_ACCEPTED)
+        fail("answers %u, %u, %u at T %zu, R %zu, C %zu", recorded.answer, plain.answer, cost.answer, sizes.time,
+             sizes.rows, sizes.columns);
+    require_same(&recorded.key, &plain.key, sizes.key, "key");
+    require_same(&recorded.matrix, &plain.matrix, 8 * sizes.matrix, "matrix");
+    require_same(&recorded.counts, &plain.counts, 8 * LYRA2_COUNTS, "counts");
+    require_same(&recorded.counts, &cost.counts, 8 * LYRA2_COUNTS, "counts and cost");
+    require_checks(&plain);
+    end_call(&recorded);
+    end_call(&plain);
+    end_call(&cost);
+}
+
+/* Each operation up to the last one that has the check refuses the sizes. */
+static void require_refused(struct sizes sizes, uint32_t due, enum operation last)
+{
+    for (enum operation operation = RECORDED; operation <= last; operation++) {
+        struct call call;
+        make_call(&call, operation, sizes, nothing);
+        if (call.answer != due)
+            fail("%s: %u is due, %u was answered", operation_names[operation], due, call.answer);
+        end_call(&call);
+    }
+}
+
+struct limit {
+    size_t place; /* of a number in struct sizes */
+    size_t least, most;
+    uint32_t refusal;
+};
+
+static const struct limit limits[] = {
+    {offsetof(struct sizes, key), LYRA2_KEY_MIN, LYRA2_KEY_MAX, LYRA2_REFUSED_KEY},
+    {offsetof(struct sizes, password), 0, LYRA2_PASSWORD_MAX, LYRA2_REFUSED_PASSWORD},
+    {offsetof(struct sizes, salt), LYRA2_SALT_MIN, LYRA2_SALT_MAX, LYRA2_REFUSED_SALT},
+    {offsetof(struct sizes, time), LYRA2_TIME_MIN, LYRA2_TIME_MAX, LYRA2_REFUSED_TIME},
+    {offsetof(struct sizes, rows), LYRA2_ROWS_MIN, LYRA2_ROWS_MAX, LYRA2_REFUSED_ROWS},
+    {offsetof(struct sizes, columns), LYRA2_COLUMNS_MIN, LYRA2_COLUMNS_MAX, LYRA2_REFUSED_COLUMNS},
+};
+
+static struct sizes with(const struct limit *limit, size_t value)
+{
+    struct sizes sizes = usual;
+    *(size_t *)((uint8_t *)&sizes + limit->place) = value;
+    return sizes;
+}
+
+/* The refusal's sentence names both ends of its limit. */
+static void require_sentence(const struct limit *limit)
+{
+    char number[32];
+    const char *sentence = lyra2_sentence(limit->refusal);
+    snprintf(number, sizeof number, " %zu", limit->most);
+    if (strstr(sentence, number) == NULL)
+        fail("'%s' does not say%s", sentence, number);
+    snprintf(number, sizeof number, " %zu ", limit->least);
+    if (limit->least > 0 && strstr(sentence, number) == NULL)
+        fail("'%s' does not say%s", sentence, number);
+}
+
+static void require_limit(const struct limit *limit)
+{
+    require_accepted(with(limit, limit->least));
+    require_accepted(with(limit, limit->most));
+    require_refused(with(limit, limit->most + 1), limit->refusal, COST);
+    if (limit->least > 0)
+        require_refused(with(limit, limit->least - 1), limit->refusal, COST);
+    require_sentence(limit);
+}
+
+/* The macros give the least words: with them a call is accepted, and refused with a word less. */
+static void require_least_words(size_t time, size_t rows, size_t columns)
+{
+    struct sizes sizes = usual;
+    sizes.time = time;
+    sizes.rows = rows;
+    sizes.columns = columns;
+    require_accepted(sizes);
+    sizes = fitting(sizes);
+    sizes.record--;
+    require_refused(sizes, LYRA2_REFUSED_RECORD, RECORDED);
+    sizes.matrix--;
+    require_refused(sizes, LYRA2_REFUSED_MATRIX, CHECK);
+}
+
+static void require_walk_limits(void)
+{
+    const size_t rows[] = {LYRA2_ROWS_MIN + 1, 5, 100, LYRA2_ROWS_MAX};
+    size_t row1;
+    for (size_t i = 0; i < sizeof rows / sizeof *rows; i++) {
+        size_t r = rows[i];
+        if (ask_walk(r, LYRA2_ROW0_MIN, &row1) != LYRA2_ACCEPTED || row1 != 1)
+            fail("walk: row 3 of %zu", r);
+        if (ask_walk(r, r - 1, &row1) != LYRA2_ACCEPTED || row1 >= r - 1)
+            fail("walk: the last row of %zu", r);
+        if (ask_walk(r, LYRA2_ROW0_MIN - 1, &row1) != LYRA2_REFUSED_ROW0 || ask_walk(r, r, &row1) != LYRA2_REFUSED_ROW0)
+            fail("walk: a row outside of %zu", r);
+    }
+    if (ask_walk(LYRA2_ROWS_MIN - 1, LYRA2_ROW0_MIN, &row1) != LYRA2_REFUSED_ROWS
+        || ask_walk(LYRA2_ROWS_MAX + 1, LYRA2_ROW0_MIN, &row1) != LYRA2_REFUSED_ROWS)
+        fail("walk: a number of rows beyond its limits");
+}
+
+/* Every answer has a sentence of its own. */
+static void require_own_sentences(void)
+{
+    for (uint32_t i = 0; i <= LYRA2_REFUSED_ROW0 + 1; i++)
+        for (uint32_t j = 0; j < i; j++)
+            if (strcmp(lyra2_sentence(i), lyra2_sentence(j)) == 0)
+                fail("%u and %u have the same sentence", i, j);
+}
+
+/* What is only read may overlap: the key is that of the same bytes apart. Bytes of the password are a wrong key. */
+static void require_overlap(void)
+{
+    uint8_t bytes[64], password[40], salt[16], key[32];
+    uint64_t matrix[LYRA2_MATRIX_WORDS(3, 1)], counts[LYRA2_COUNTS];
+    uint32_t right = 0, wrong = 1;
+    for (size_t i = 0; i < sizeof bytes; i++)
+        bytes[i] = (uint8_t)(i * i);
+    memcpy(password, bytes, sizeof password);
+    memcpy(salt, bytes + 32, sizeof salt);
+    if (lyra2_derive(password, 40, salt, 16, 1, 3, 1, key, 32, matrix, 36, counts) != LYRA2_ACCEPTED
+        || lyra2_check(bytes, 40, bytes + 32, 16, 1, 3, 1, key, 32, matrix, 36, &right, counts) != LYRA2_ACCEPTED
+        || lyra2_check(bytes, 40, bytes + 32, 16, 1, 3, 1, bytes + 4, 32, matrix, 36, &wrong, counts) != LYRA2_ACCEPTED
+        || right != 1 || wrong != 0)
+        fail("overlap: the check said %u of the key and %u of other bytes", right, wrong);
+}
+
+int main(void)
+{
+    for (size_t i = 0; i < sizeof limits / sizeof *limits; i++)
+        require_limit(&limits[i]);
+    require_least_words(1, 3, 1);
+    require_least_words(2, 5, 7);
+    require_least_words(3, 100, 33);
+    require_least_words(LYRA2_TIME_MAX, 3, LYRA2_COLUMNS_MAX);
+    require_least_words(1, LYRA2_ROWS_MAX, 2);
+    require_walk_limits();
+    require_own_sentences();
+    require_overlap();
+    printf("limits of the header: %zu calls\n", calls_made);
+    return 0;
+}

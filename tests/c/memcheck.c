@@ -1,0 +1,245 @@
+/*
+ * Calls under valgrind's memcheck, which sees every byte that they read or write. All memory has exactly the length
+ * that is lent; what a call writes is marked as never written, so an answer that depended on it would be marked too.
+ */
+#include "calls.h"
+
+#include <stdio.h>
+#include <stdlib.h>
+#include <string.h>
+#include <valgrind/memcheck.h>
+
+/* Words and bytes past the used ones, in the calls that lend more than is needed. */
+enum { SPARE = 5 };
+
+struct memory {
+    uint8_t *password, *salt, *key, *stored;
+    uint64_t *matrix, *record, *state, *counts;
+    uint32_t *same;
+};
+
+/* Memory of exactly this length, never written; no bytes have an address too, at which none may be touched. */
+static void *unwritten(size_t bytes)
+{
+    void *memory = malloc(bytes);
+    if (memory == NULL)
+        fail("no memory for %zu bytes", bytes);
+    return memory;
+}
+
+static uint8_t *written(size_t bytes, uint8_t first)
+{
+    uint8_t *memory = unwritten(bytes);
+    for (size_t i = 0; i < bytes; i++)
+        memory[i] = (uint8_t)(first + 7 * i);
+    return memory;
+}
+
+static struct memory lend_all(const struct sizes *n)
+{
+    return (struct memory){
+        .password = written(n->password, 1),
+        .salt = written(n->salt, 2),
+        .key = unwritten(n->key),
+        .stored = unwritten(n->key),
+        .matrix = unwritten(8 * n->matrix),
+        .record = unwritten(8 * n->record),
+        .state = unwritten(8 * LYRA2_STATE_WORDS),
+        .counts = unwritten(8 * LYRA2_COUNTS),
+        .same = unwritten(sizeof(uint32_t)),
+    };
+}
+
+static void take_all_back(struct memory *m)
+{
+    void *all[] = {m->password, m->salt, m->key, m->stored, m->matrix, m->record, m->state, m->counts, m->same};
+    for (size_t i = 0; i < sizeof all / sizeof *all; i++)
+        free(all[i]);
+}
+
+/* Whether memcheck holds every bit for never written, or for made from one that was not. */
+static int is_unwritten(const void *memory, size_t bytes)
+{
+    uint8_t bits[256], none[256];
+    memset(none, 0xff, sizeof none);
+    for (size_t i = 0; i < bytes; i += sizeof bits) {
+        size_t piece = bytes - i < sizeof bits ? bytes - i : sizeof bits;
+        if (VALGRIND_GET_VBITS((const uint8_t *)memory + i, bits, piece) != 1 || memcmp(bits, none, piece) != 0)
+            return 0;
+    }
+    return 1;
+}
+
+/* The used part was written from what was written, and past it nothing was. */
+static void require_written(const char *name, const void *memory, size_t used, size_t lent)
+{
+    if (VALGRIND_CHECK_MEM_IS_DEFINED(memory, used) != 0)
+        fail("%s: depends on what the memory held", name);
+    if (!is_unwritten((const uint8_t *)memory + used, lent - used))
+        fail("%s: written past its used part", name);
+}
+
+static uint32_t derive_recorded(const struct sizes *n, struct memory *m)
+{
+    calls_made++;
+    return lyra2_derive_recorded(m->password, n->password, m->salt, n->salt, n->time, n->rows, n->columns, m->key,
+                                 n->key, m->matrix, n->matrix, m->record, n->record, m->state, m->counts);
+}
+
+static uint32_t derive(const struct sizes *n, struct memory *m)
+{
+    calls_made++;
+    return lyra2_derive(m->password, n->password, m->salt, n->salt, n->time, n->rows, n->columns, m->key, n->key,
+                        m->matrix, n->matrix, m->counts);
+}
+
+static uint32_t check(const struct sizes *n, struct memory *m)
+{
+    calls_made++;
+    return lyra2_check(m->password, n->password, m->salt, n->salt, n->time, n->rows, n->columns, m->stored, n->key,
+                       m->matrix, n->matrix, m->same, m->counts);
+}
+
+static void require_accepted(uint32_t answer)
+{
+    if (answer != LYRA2_ACCEPTED)
+        fail("refused: %s", lyra2_sentence(answer));
+}
+
+static void require_derivation(const struct sizes *n, int recorded)
+{
+    struct memory m = lend_all(n);
+    require_accepted(recorded ? derive_recorded(n, &m) : derive(n, &m));
+    require_written("key", m.key, n->key, n->key);
+    require_written("matrix", m.matrix, 8 * used_matrix(n), 8 * n->matrix);
+    require_written("record", m.record, recorded ? 8 * used_record(n) : 0, 8 * n->record);
+    require_written("state", m.state, recorded ? 8 * LYRA2_STATE_WORDS : 0, 8 * LYRA2_STATE_WORDS);
+    require_written("counts", m.counts, 8 * LYRA2_COUNTS, 8 * LYRA2_COUNTS);
+    take_all_back(&m);
+}
+
+/*
+ * The stored key is marked as never written, so memcheck reports a branch or an address that depends on its bytes: the
+ * comparison may have none before its answer.
+ */
+static void require_check(const struct sizes *n, int wrong)
+{
+    struct memory m = lend_all(n);
+    require_accepted(derive(n, &m));
+    memcpy(m.stored, m.key, n->key);
+    m.stored[n->key / 2] ^= (uint8_t)wrong;
+    (void)VALGRIND_MAKE_MEM_UNDEFINED(m.stored, n->key);
+    (void)VALGRIND_MAKE_MEM_UNDEFINED(m.matrix, 8 * n->matrix);
+    (void)VALGRIND_MAKE_MEM_UNDEFINED(m.counts, 8 * LYRA2_COUNTS);
+    require_accepted(check(n, &m));
+    require_written("matrix", m.matrix, 8 * used_matrix(n), 8 * n->matrix);
+    require_written("counts", m.counts, 8 * LYRA2_COUNTS, 8 * LYRA2_COUNTS);
+    (void)VALGRIND_MAKE_MEM_DEFINED(m.same, sizeof *m.same);
+    if (*m.same != !wrong)
+        fail("the check said %u", *m.same);
+    take_all_back(&m);
+}
+
+/* A refused call may not even read: everything lent is marked as out of reach. */
+static void require_untouched(struct sizes n, uint32_t due)
+{
+    struct memory m = lend_all(&n);
+    (void)VALGRIND_MAKE_MEM_NOACCESS(m.password, n.password);
+    (void)VALGRIND_MAKE_MEM_NOACCESS(m.salt, n.salt);
+    (void)VALGRIND_MAKE_MEM_NOACCESS(m.key, n.key);
+    (void)VALGRIND_MAKE_MEM_NOACCESS(m.stored, n.key);
+    (void)VALGRIND_MAKE_MEM_NOACCESS(m.matrix, 8 * n.matrix);
+    (void)VALGRIND_MAKE_MEM_NOACCESS(m.record, 8 * n.record);
+    (void)VALGRIND_MAKE_MEM_NOACCESS(m.state, 8 * LYRA2_STATE_WORDS);
+    (void)VALGRIND_MAKE_MEM_NOACCESS(m.counts, 8 * LYRA2_COUNTS);
+    (void)VALGRIND_MAKE_MEM_NOACCESS(m.same, sizeof(uint32_t));
+    int refused = derive_recorded(&n, &m) == due;
+    if (due < LYRA2_REFUSED_RECORD)
+        refused = refused && derive(&n, &m) == due && check(&n, &m) == due;
+    if (due < LYRA2_REFUSED_MATRIX) {
+        refused = refused && lyra2_cost(n.key, n.password, n.salt, n.time, n.rows, n.columns, m.counts) == due;
+        calls_made++;
+    }
+    if (!refused)
+        fail("%u is due", due);
+    take_all_back(&m);
+}
+
+static void require_refusals(void)
+{
+    const struct sizes n = {32, 31, 8, 1, 3, 1, 36, 12};
+    struct sizes wrong[] = {n, n, n, n, n, n, n, n};
+    wrong[0].key = 0;
+    wrong[1].password = LYRA2_PASSWORD_MAX + 1;
+    wrong[2].salt = LYRA2_SALT_MIN - 1;
+    wrong[3].time = 0;
+    wrong[4].rows = LYRA2_ROWS_MAX + 1;
+    wrong[5].columns = 0;
+    wrong[6].matrix = 35;
+    wrong[7].record = 11;
+    for (uint32_t i = 0; i < 8; i++)
+        require_untouched(wrong[i], i + 1);
+    wrong[0].key = LYRA2_KEY_MAX + 1;
+    require_untouched(wrong[0], LYRA2_REFUSED_KEY);
+    wrong[2].salt = LYRA2_SALT_MAX + 1;
+    require_untouched(wrong[2], LYRA2_REFUSED_SALT);
+    wrong[3].time = SIZE_MAX;
+    require_untouched(wrong[3], LYRA2_REFUSED_TIME);
+    wrong[6].matrix = 0;
+    require_untouched(wrong[6], LYRA2_REFUSED_MATRIX);
+}
+
+/* One shape with a key, a password and a salt of these lengths, exactly lent and with words to spare. */
+static void require_shape(size_t time, size_t rows, size_t columns, size_t key, size_t password, size_t salt)
+{
+    struct sizes n = {key, password, salt, time, rows, columns, 0, 0};
+    for (size_t spare = 0; spare <= SPARE; spare += SPARE) {
+        n.matrix = used_matrix(&n) + spare;
+        n.record = used_record(&n) + spare;
+        require_derivation(&n, 1);
+        require_derivation(&n, 0);
+    }
+    require_check(&n, 0);
+    require_check(&n, 1);
+    require_check(&n, 0x80);
+}
+
+static void require_cost_and_walk(void)
+{
+    uint64_t *counts = unwritten(8 * LYRA2_COUNTS);
+    size_t *row1 = unwritten(sizeof(size_t));
+    require_accepted(lyra2_cost(32, 31, 8, 1, 3, 1, counts));
+    require_written("counts", counts, 8 * LYRA2_COUNTS, 8 * LYRA2_COUNTS);
+    for (size_t row0 = 2; row0 <= 17; row0++) {
+        (void)VALGRIND_MAKE_MEM_UNDEFINED(row1, sizeof *row1);
+        uint32_t answer = lyra2_walk(17, row0, row1);
+        if (answer != (row0 < 3 || row0 == 17 ? LYRA2_REFUSED_ROW0 : LYRA2_ACCEPTED))
+            fail("walk: answer %u for row0 %zu", answer, row0);
+        require_written("row1", row1, answer == LYRA2_ACCEPTED ? sizeof *row1 : 0, sizeof *row1);
+        calls_made++;
+    }
+    calls_made++;
+    free(counts);
+    free(row1);
+}
+
+int main(void)
+{
+    static const size_t keys[] = {1, 8, 95, 96, 97, 191, 192, 193, LYRA2_KEY_MAX - 1, LYRA2_KEY_MAX};
+    static const size_t passwords[] = {0, 1, 31, 32, 39, 40, 95, 96, LYRA2_PASSWORD_MAX - 1, LYRA2_PASSWORD_MAX};
+    static const size_t columns[] = {1, 2, 3, 15, 16, 17, 32, 64, 100, 128, 256};
+    if (!RUNNING_ON_VALGRIND)
+        fail("this program tells nothing outside of valgrind");
+    require_refusals();
+    require_cost_and_walk();
+    for (size_t i = 0; i < sizeof keys / sizeof *keys; i++)
+        for (size_t j = 0; j < sizeof passwords / sizeof *passwords; j++)
+            require_shape(1, 3 + i % 3, 1 + j % 3, keys[i], passwords[j], i % 2 ? LYRA2_SALT_MAX : LYRA2_SALT_MIN);
+    for (size_t i = 0; i < sizeof columns / sizeof *columns; i++)
+        require_shape(1 + i % 3, 3 + 2 * i, columns[i], 97, 33, 9);
+    require_shape(2, 65, 16, 64, 20, 16);
+    require_shape(1, 256, 64, 32, 20, 16);
+    require_shape(LYRA2_TIME_MAX, 3, 1, 64, 20, 16);
+    printf("memcheck: %zu calls\n", calls_made);
+    return 0;
+}

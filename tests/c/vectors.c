@@ -1,0 +1,224 @@
+/*
+ * The vectors file put to the C interface: all its lines but those of the walk program, each between guards. A line of
+ * the recorded derivation is put to the other operations as well, which share its key, counts and matrix.
+ */
+#include "calls.h"
+#include "fields.h"
+
+#include <inttypes.h>
+#include <stdio.h>
+#include <stdlib.h>
+#include <string.h>
+
+/* What a line asks. */
+struct question {
+    struct sizes sizes;
+    uint8_t *password, *salt, *stored;
+};
+
+static const struct sizes no_sizes;
+static size_t lines_of[OPERATIONS], walk_lines;
+
+/* FNV-1a over words, the lowest byte of each first. */
+static uint64_t checksum(const uint64_t *words, size_t count)
+{
+    uint64_t sum = UINT64_C(0xcbf29ce484222325);
+    for (size_t i = 0; i < count; i++)
+        for (int shift = 0; shift < 64; shift += 8)
+            sum = (sum ^ (words[i] >> shift & 0xff)) * UINT64_C(0x100000001b3);
+    return sum;
+}
+
+static struct question read_question(struct text line, enum operation operation)
+{
+    struct question asked = {no_sizes, NULL, NULL, NULL};
+    struct sizes *n = &asked.sizes;
+    n->time = require_number(line, "T");
+    n->rows = require_number(line, "R");
+    n->columns = require_number(line, "C");
+    if (operation == COST) {
+        n->password = require_number(line, "password_len");
+        n->salt = require_number(line, "salt_len");
+    } else {
+        asked.password = require_bytes(line, "password", &n->password);
+        asked.salt = require_bytes(line, "salt", &n->salt);
+        n->matrix = require_number(line, "matrix_words");
+    }
+    if (operation == CHECK)
+        asked.stored = require_bytes(line, "stored", &n->key);
+    else
+        n->key = require_number(line, "key_len");
+    if (operation == RECORDED)
+        n->record = require_number(line, "record_words");
+    return asked;
+}
+
+static void require_counts(struct text line, const struct call *call)
+{
+    static const char *const names[LYRA2_COUNTS] = {"full", "reduced", "rounds"};
+    const uint64_t *counts = lent_part(&call->counts);
+    for (size_t i = 0; i < LYRA2_COUNTS; i++)
+        if (counts[i] != require_number(line, names[i]))
+            fail("%s: %" PRIu64 " %s", operation_names[call->operation], counts[i], names[i]);
+}
+
+static void require_sum(struct text line, const char *name, const struct lent *lent, size_t used)
+{
+    uint64_t sum = checksum(lent_part(lent), used);
+    if (sum != require_word(line, name))
+        fail("%s is %016" PRIx64, name, sum);
+}
+
+static void require_listed(struct text line, const char *name, const struct lent *lent, size_t used)
+{
+    struct text value;
+    if (!find(line, name, &value))
+        return;
+    uint64_t *due = allocate(8 * used);
+    require_words(line, name, due, used);
+    if (memcmp(due, lent_part(lent), 8 * used) != 0)
+        fail("the %s is not the one listed", name);
+    free(due);
+}
+
+static void require_key(struct text line, const struct call *call)
+{
+    size_t length;
+    uint8_t *due = require_bytes(line, "key", &length);
+    if (length != call->sizes.key || memcmp(due, lent_part(&call->key), length) != 0)
+        fail("%s: another key is due", operation_names[call->operation]);
+    free(due);
+}
+
+static void require_recorded(struct text line, const struct call *call)
+{
+    uint64_t state[LYRA2_STATE_WORDS];
+    require_words(line, "state", state, LYRA2_STATE_WORDS);
+    if (memcmp(state, lent_part(&call->state), sizeof state) != 0)
+        fail("another state is due");
+    size_t matrix = used_matrix(&call->sizes), record = used_record(&call->sizes);
+    require_sum(line, "record_sum", &call->record, record);
+    require_listed(line, "record", &call->record, record);
+    require_listed(line, "matrix", &call->matrix, matrix);
+}
+
+/* Makes the call of a line, and holds an accepted one to what all operations share. `same` is a check's answer. */
+static void require_call(struct text line, enum operation operation, const struct question *asked, uint32_t due,
+                         uint32_t same)
+{
+    struct call call;
+    make_call(&call, operation, asked->sizes, (struct contents){asked->password, asked->salt, asked->stored});
+    if (call.answer != due)
+        fail("%s: %u is due, %u was answered", operation_names[operation], due, call.answer);
+    if (due == LYRA2_ACCEPTED) {
+        require_counts(line, &call);
+        if (operation != COST)
+            require_sum(line, "matrix_sum", &call.matrix, used_matrix(&call.sizes));
+        if (operation == RECORDED || operation == PLAIN)
+            require_key(line, &call);
+        if (operation == RECORDED)
+            require_recorded(line, &call);
+        if (operation == CHECK && *(uint32_t *)lent_part(&call.same) != same)
+            fail("check: %u is due", same);
+    }
+    end_call(&call);
+}
+
+/* An accepted line of the recorded derivation holds for the others; the key with a flipped bit is a wrong one. */
+static void require_others(struct text line, struct question asked)
+{
+    size_t length;
+    uint8_t *key = require_bytes(line, "key", &length);
+    require_call(line, PLAIN, &asked, LYRA2_ACCEPTED, 0);
+    require_call(line, COST, &asked, LYRA2_ACCEPTED, 0);
+    asked.stored = key;
+    require_call(line, CHECK, &asked, LYRA2_ACCEPTED, 1);
+    key[case_number % length] ^= (uint8_t)(1 << case_number % 8);
+    require_call(line, CHECK, &asked, LYRA2_ACCEPTED, 0);
+    free(key);
+}
+
+static uint32_t due_flag(struct text line)
+{
+    struct text answer = require_field(line, "answer");
+    if (!is(answer, "yes") && !is(answer, "no"))
+        fail("a check's answer is neither yes nor no");
+    return is(answer, "yes");
+}
+
+static void run_line(struct text line, enum operation operation)
+{
+    struct question asked = read_question(line, operation);
+    uint32_t due = (uint32_t)require_number(line, "refusal");
+    uint32_t same = operation == CHECK && due == LYRA2_ACCEPTED ? due_flag(line) : 0;
+    require_call(line, operation, &asked, due, same);
+    if (operation == RECORDED && due == LYRA2_ACCEPTED)
+        require_others(line, asked);
+    lines_of[operation]++;
+    free(asked.password);
+    free(asked.salt);
+    free(asked.stored);
+}
+
+static void run_walk(struct text line)
+{
+    size_t row1, due = require_number(line, "refusal");
+    size_t rows = require_number(line, "R"), row0 = require_number(line, "row0");
+    if (ask_walk(rows, row0, &row1) != due)
+        fail("walk: %zu is due", due);
+    if (due == LYRA2_ACCEPTED && row1 != require_number(line, "row1"))
+        fail("walk: row1 %zu", row1);
+    walk_lines++;
+}
+
+static void run_any(struct text line)
+{
+    struct text name = require_field(line, "op");
+    case_number = require_number(line, "case");
+    for (enum operation operation = RECORDED; operation < OPERATIONS; operation++)
+        if (is(name, operation_names[operation])) {
+            run_line(line, operation);
+            return;
+        }
+    if (is(name, "walk"))
+        run_walk(line);
+    else if (!is(name, "walk_program"))
+        fail("an unknown operation");
+}
+
+/* The whole file; to be freed. */
+static struct text read_file(const char *path)
+{
+    FILE *file = fopen(path, "rb");
+    if (file == NULL || fseek(file, 0, SEEK_END) != 0)
+        fail("%s cannot be read", path);
+    long length = ftell(file);
+    rewind(file);
+    char *start = allocate((size_t)length);
+    if (length <= 0 || fread(start, 1, (size_t)length, file) != (size_t)length)
+        fail("%s cannot be read", path);
+    fclose(file);
+    return (struct text){start, (size_t)length};
+}
+
+int main(int count, char **arguments)
+{
+    if (count != 2)
+        fail("usage: vectors FILE");
+    struct text file = read_file(arguments[1]);
+    const char *end = file.start + file.length;
+    for (const char *start = file.start; start < end;) {
+        const char *newline = memchr(start, '\n', (size_t)(end - start));
+        if (newline == NULL)
+            fail("the last line has no end");
+        if (*start != '#')
+            run_any((struct text){start, (size_t)(newline - start)});
+        start = newline + 1;
+    }
+    free((char *)file.start);
+    printf("vectors:");
+    for (enum operation operation = RECORDED; operation < OPERATIONS; operation++)
+        printf(" %zu %s,", lines_of[operation], operation_names[operation]);
+    printf(" %zu walk lines; %zu calls\n", walk_lines, calls_made);
+    return 0;
+}

@@ -1,0 +1,90 @@
+#!/usr/bin/env bash
+# The C interface from C: what the archive exports and needs, the header's limits, the refusals in pairs, the stack and
+# the vectors; and wrong headers, wrong vectors and faulty libraries, which these tests have to find.
+set -eu
+cd "$(dirname "$0")/.."
+. tests/c/build.sh
+
+# ---- the archive: five functions, nothing needed from elsewhere, no section to write in
+names=$(nm -g --defined-only "$library" 2>"$work/log" | sed -n 's/^[0-9a-f]* //p' | sort | tr '\n' ' ')
+same 'exported names' 'T lyra2_check T lyra2_cost T lyra2_derive T lyra2_derive_recorded T lyra2_walk ' "$names"
+same 'names from elsewhere' '' "$(nm -u "$library" | sed -n 's/^ *[Uwv] //p')"
+same 'sections to write in' '' "$(readelf -SW "$library" | grep -E ' (WA|WAT|AW)[A-Z]* ' || true)"
+readelf -SW "$library" | grep -q ' AX ' || { echo 'readelf shows no code'; exit 1; }
+
+# ---- the programs
+compile limits refusals stack vectors fields calls lent
+cc "${flags[@]}" "$work"/{limits,calls,lent}.o "$library" -o "$work/limits"
+cc "${flags[@]}" "$work"/{refusals,calls,lent}.o "$library" -o "$work/refusals"
+cc "${flags[@]}" "$work"/{stack,lent}.o "$library" -o "$work/stack"
+cc "${flags[@]}" "$work"/{vectors,fields,calls,lent}.o "$library" -o "$work/vectors"
+"$work/limits"
+"$work/refusals"
+"$work/stack"
+"$work/vectors" vectors/lyra2.txt >"$work/ran"
+cat "$work/ran"
+
+# Every line of the file was put to the library, as grep counts them.
+for op in derive_recorded derive check cost walk; do
+    lines=$(grep -c " op=$op " vectors/lyra2.txt)
+    grep -qE " $lines $op( lines|,)" "$work/ran" || { echo "not all $lines lines of $op were run"; exit 1; }
+done
+
+# ---- wrong headers: a constant or a sentence changed
+mkdir "$work/include"
+headers=0
+while read -r edit; do
+    sed "$edit" include/lyra2.h >"$work/include/lyra2.h"
+    ! cmp -s include/lyra2.h "$work/include/lyra2.h" || { echo "no header to spoil: $edit"; exit 1; }
+    cc -std=c99 -I"$work/include" tests/c/{limits,calls,lent}.c "$library" -o "$work/wrong"
+    ! "$work/wrong" >"$work/log" 2>&1 || { echo "a wrong header passes: $edit"; exit 1; }
+    grep -q '^FAILED: ' "$work/log" || { cat "$work/log"; exit 1; }
+    headers=$((headers + 1))
+done <<'END'
+s/KEY_MIN 1/KEY_MIN 2/
+s/KEY_MAX 1024/KEY_MAX 1023/
+s/PASSWORD_MAX 1024/PASSWORD_MAX 1025/
+s/SALT_MIN 8/SALT_MIN 9/
+s/SALT_MAX 64/SALT_MAX 65/
+s/TIME_MIN 1/TIME_MIN 0/
+s/TIME_MAX 255/TIME_MAX 256/
+s/ROWS_MIN 3/ROWS_MIN 2/
+s/ROWS_MAX 16384/ROWS_MAX 16383/
+s/COLUMNS_MIN 1/COLUMNS_MIN 2/
+s/COLUMNS_MAX 256/COLUMNS_MAX 255/
+s/ROW0_MIN 3/ROW0_MIN 4/
+s/CELL_WORDS 12/CELL_WORDS 11/
+s/(columns) + 2))/(columns) + 1))/
+s/REFUSED_ROWS = 5/REFUSED_ROWS = 6/; s/REFUSED_COLUMNS = 6/REFUSED_COLUMNS = 5/
+s/8 to 64 bytes/8 to 65 bytes/
+END
+
+# ---- wrong vectors: the first accepted line of an operation with one field spoilt
+wrong=0
+for spoilt in derive_recorded:{key,state,full,reduced,rounds,matrix_sum,record_sum,matrix,record} derive:{key,matrix_sum} \
+    check:{answer,matrix_sum,full} cost:{full,rounds} walk:row1; do
+    field=${spoilt#*:}
+    line=$(grep " op=${spoilt%:*} .* refusal=0 .*\<$field=" vectors/lyra2.txt | sed -n 1p)
+    changed=$(sed -E "s/ $field=yes/ $field=NO/; s/ $field=no/ $field=yes/; s/ $field=NO/ $field=no/
+        s/( $field=[^ ]*)0( |\$)/\11\2/; t; s/( $field=[^ ]*)[1-9a-f]( |\$)/\10\2/" <<<"$line")
+    [ -n "$line" ] && [ "$line" != "$changed" ] || { echo "no line to spoil for $spoilt"; exit 1; }
+    printf '%s\n' "$changed" >"$work/wrong"
+    ! "$work/vectors" "$work/wrong" >"$work/log" 2>&1 || { echo "a wrong $field of ${spoilt%:*} passes"; exit 1; }
+    grep -q '^FAILED: case' "$work/log" || { cat "$work/log"; exit 1; }
+    wrong=$((wrong + 1))
+done
+
+# ---- faulty libraries
+is_found() { # FAULT
+    compile_fault "$1"
+    for program in limits refusals; do
+        cc "$wrapped" "$work"/{$program,calls,lent,faulty}.o "$library" -o "$work/faulty" || exit 1
+        "$work/faulty" >"$work/log" 2>&1 || { grep -q "^FAILED: " "$work/log"; return; }
+    done
+    return 1
+}
+! is_found 0 || { echo 'the wrapped library without a fault fails'; exit 1; }
+for fault in {1..19}; do
+    is_found "$fault" || { echo "fault $fault is not found"; exit 1; }
+done
+echo "C interface: $(sed 's/^vectors: //' "$work/ran"); $headers wrong headers, $wrong wrong lines and $fault faulty libraries were found"

@@ -1,0 +1,46 @@
+#!/usr/bin/env bash
+# The C interface under valgrind's memcheck: no byte outside of what is lent, nothing that depends on what lent memory
+# held before, no touch by a refused call, no branch on the bytes of a stored key; and faulty libraries, which it finds.
+set -eu
+cd "$(dirname "$0")/.."
+. tests/c/build.sh
+cc -fsyntax-only -include valgrind/memcheck.h -x c /dev/null || { echo "valgrind's headers are missing, of Debian's package valgrind"; exit 1; }
+
+memcheck() { # PROGRAM ARGUMENT..
+    valgrind --quiet --error-exitcode=9 --leak-check=full --show-leak-kinds=all --errors-for-leak-kinds=all "$@"
+}
+
+flags+=(-g)
+compile memcheck refusals vectors fields calls lent
+cc "$work"/{memcheck,calls,lent}.o "$library" -o "$work/memcheck"
+cc "$work"/{refusals,calls,lent}.o "$library" -o "$work/refusals"
+cc "$work"/{vectors,fields,calls,lent}.o "$library" -o "$work/vectors"
+memcheck "$work/memcheck" | tee "$work/ran"
+memcheck "$work/refusals"
+cc "${flags[@]}" examples/derive_and_check.c "$library" -o "$work/example"
+same 'the example' "$(cat examples/derive_and_check.out)" "$(printf 'correct horse' | memcheck "$work/example" 'salt of 16 bytes' 1 256 64 32)"
+
+# Every third of the vectors whose matrix has fewer than 1,000 words; all of them would take minutes.
+grep -E ' op=(cost|walk) | matrix_words=[0-9]{1,3} ' vectors/lyra2.txt | awk 'NR % 3 == 0' >"$work/small"
+memcheck "$work/vectors" "$work/small"
+
+# ---- faulty libraries, and what is said of each
+report() { # FAULT
+    compile_fault "$1"
+    cc "$wrapped" "$work"/{memcheck,calls,lent,faulty}.o "$library" -o "$work/faulty" || exit 1
+    memcheck "$work/faulty" 2>&1 && echo 'nothing is found'
+}
+same 'the wrapped library without a fault' 'nothing is found' "$(report 0 | tail -n 1)"
+found=0
+while read -r fault words; do
+    report "$fault" >"$work/log" || true
+    grep -q "$words" "$work/log" || { cat "$work/log"; echo "fault $fault is not found"; exit 1; }
+    found=$((found + 1))
+done <<'END'
+20 Invalid read of size 1
+21 Invalid read of size 1
+22 key: depends on what the memory held
+23 Invalid write of size 8
+24 Conditional jump or move depends on uninitialised value
+END
+echo "valgrind: $(sed 's/^memcheck: //' "$work/ran") without an error, $found faulty libraries were found"
