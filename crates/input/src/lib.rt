@@ -1,11 +1,11 @@
-// The padded input, byte by byte as it is asked for, and its absorption. No copy of the password is
-// kept beyond the block that is being absorbed.
+// The padded input, byte by byte as it is asked for, and its absorption. No copy of the password is made.
 use little_endian::byte_of;
 use little_endian::widened;
-use sponge::duplex::absorb_block;
+use sponge::duplex::full_call;
 ghost use mathlib.Core.Path.{_≡_};
 ghost use Prim.Native.Nat.{_+_, _*_, _≤_, _<_};
 ghost use lib.ListN.{length, getD, take, drop};
+ghost use Rattle.lists.specs.Zip.{xorInto};
 ghost use Rattle.permutation.specs.Word.{plainSum};
 ghost use Rattle.little_endian.specs.Bytes.{leValue, leEach};
 ghost use Rattle.input.specs.Input.{Short, numbers, padding, padded, blocks, block, absorbInput};
@@ -82,14 +82,14 @@ fn input_word(password: &[u8], salt: &[u8], numbers: &[u64], at: usize) -> u64
     v
 }
 
-// The words of block b of the padded input.
-fn fill_block(words: &mut [u64], password: &[u8], salt: &[u8], numbers: &[u64], b: usize)
-    requires { ⌜ Short (length (now password)) (length (now salt)) (length (now numbers)) × (b < blocks (length (now password)) (length (now salt)) (length (now numbers))) × (length (now words) ≡ 8) ⌝ }
-    ensures { λ _. ⌜ now (words .exit) ≡ block (padded (now (password .entry)) (now (salt .entry)) (now (numbers .entry))) b ⌝ }
+// Block b of the padded input, XORed into the state word by word: no block of its own ever holds the password.
+fn xor_block(s: &mut [u64; 16], password: &[u8], salt: &[u8], numbers: &[u64], b: usize)
+    requires { ⌜ Short (length (now password)) (length (now salt)) (length (now numbers)) × (b < blocks (length (now password)) (length (now salt)) (length (now numbers))) ⌝ }
+    ensures { λ _. ⌜ now (s .exit) ≡ xorInto (now (s .entry)) (block (padded (now (password .entry)) (now (salt .entry)) (now (numbers .entry))) b) ⌝ }
 {
     let mut i = 0;
-    while i < words.len() {
-        words[i] = input_word(password, salt, numbers, BLOCK_BYTES * b + 8 * i);
+    while i < 8 {
+        s[i] = s[i] ^ input_word(password, salt, numbers, BLOCK_BYTES * b + 8 * i);
         i += 1;
     }
 }
@@ -100,17 +100,14 @@ pub fn absorb_padded(s: &mut [u64; 16], password: &[u8], salt: &[u8], numbers: &
     ensures { λ r. ⌜ (now (s .exit) ≡ absorbInput plainSum (now (password .entry)) (now (salt .entry)) (now (numbers .entry)) (now (s .entry))) × (r ≡ blocks (length (now (password .entry))) (length (now (salt .entry))) (length (now (numbers .entry)))) ⌝ }
 {
     let n = block_count(password.len(), salt.len(), numbers.len());
-    let mut words = [0u64; 8];
     let mut calls = 0;
     let mut b = 0;
     while b < n {
-        fill_block(&mut words, password, salt, numbers, b);
-        absorb_block(s, &words);
+        xor_block(s, password, salt, numbers, b);
+        full_call(s);
         calls += 1;
         b += 1;
     }
-    // No word of the password is left here, as far as the compiler keeps a store that nothing reads.
-    words = [0u64; 8];
     calls
 }
 

@@ -9,6 +9,7 @@ use lib.Bits.{bitXor}
 use Rattle.lists.specs.Zip.{xorInto}
 use Rattle.lists.proofs.Words.{AllWords, each-words}
 use Rattle.lists.proofs.ZipLaws.{length-zip, zip-undo, zip-inj, xor-words}
+use Rattle.permutation.specs.Round.{rounds}
 use Rattle.permutation.specs.Inverse.{Addition, unrounds}
 use Rattle.permutation.proofs.WordLaws.{xor-undo, xor-undo-left}
 use Rattle.permutation.proofs.State.{IsState}
@@ -19,6 +20,11 @@ use Rattle.sponge.specs.Sponge.{absorb, unabsorb}
 pub start-state : IsState start
 unfolding start startingWords
 start-state = record { len = refl; word = each-words start (omega arith) }
+
+-- absorbing in two steps
+pub absorb-call : (sum : ℕ → ℕ → ℕ) (n : ℕ) (words s t : List ℕ) → t ≡ xorInto s words → rounds sum n t ≡ absorb sum n words s
+unfolding absorb
+absorb-call sum n words s t e = ap (rounds sum n) e
 
 xor-state : {s : List ℕ} (words : List ℕ) → AllWords words → IsState s → IsState (xorInto s words)
 xor-state {s} words hw hs =

@@ -33,14 +33,6 @@ fn xor_words(s: &mut [u64; 16], words: &[u64])
     }
 }
 
-// A block of eight words, with a full call.
-pub fn absorb_block(s: &mut [u64; 16], block: &[u64; 8])
-    ensures { λ _. ⌜ now (s .exit) ≡ absorb plainSum fullRounds (now (block .entry)) (now (s .entry)) ⌝ }
-{
-    xor_words(s, block);
-    full_call(s);
-}
-
 // A cell, with a full call.
 pub fn absorb_cell(s: &mut [u64; 16], cell: &[u64])
     requires { ⌜ length (now cell) ≡ 12 ⌝ }
