@@ -1,7 +1,9 @@
 //! The plain derivation in safe Rust written for speed, to set the proved one beside.
 //!
 //! Every loop over columns holds the state in a local array, and cells are arrays, so that the compiler can
-//! unroll the rounds and the loops over words and needs few bounds checks.
+//! unroll the rounds and the loops over words and needs few bounds checks. A round is cut in its two halves: the
+//! first takes its words in just before they are used and the second gives them out as soon as they are final, so
+//! that few of them wait outside the registers.
 
 use lyra2_reference::sponge::{Cell, State, BLOCK_WORDS, CELL_WORDS, STARTING_WORDS};
 use lyra2_reference::Inputs;
@@ -18,16 +20,39 @@ fn g(s: &mut State, i: usize, j: usize, k: usize, l: usize) {
     s[j] = (s[j] ^ s[k]).rotate_right(63);
 }
 
+/// The first half of a round: G on the columns of the state as a square, each after its words were given in.
+#[inline(always)]
+fn column_step(s: &mut State, given: impl Fn(usize) -> u64) {
+    for i in 0..4 {
+        for j in [i, 4 + i, 8 + i] {
+            s[j] ^= given(j);
+        }
+        g(s, i, 4 + i, 8 + i, 12 + i);
+    }
+}
+
+/// The second half: G on the diagonals, each before its words of the output are handed out.
+#[inline(always)]
+fn diagonal_step(s: &mut State, mut hand_out: impl FnMut(usize, u64)) {
+    for i in 0..4 {
+        let [j, k, l] = [4 + (i + 1) % 4, 8 + (i + 2) % 4, 12 + (i + 3) % 4];
+        g(s, i, j, k, l);
+        for word in [i, j, k] {
+            hand_out(word, s[word]);
+        }
+    }
+}
+
 #[inline(always)]
 fn round(s: &mut State) {
-    g(s, 0, 4, 8, 12);
-    g(s, 1, 5, 9, 13);
-    g(s, 2, 6, 10, 14);
-    g(s, 3, 7, 11, 15);
-    g(s, 0, 5, 10, 15);
-    g(s, 1, 6, 11, 12);
-    g(s, 2, 7, 8, 13);
-    g(s, 3, 4, 9, 14);
+    column_step(s, |_| 0);
+    diagonal_step(s, |_, _| ());
+}
+
+/// The place where a word of the output goes when the output is rotated by two words.
+#[inline(always)]
+fn rotated(j: usize) -> usize {
+    (j + CELL_WORDS - 2) % CELL_WORDS
 }
 
 fn absorb(s: &mut State, words: &[u64]) {
@@ -106,17 +131,14 @@ fn setup(s: &mut State, cells: &mut [Cell], columns: usize) -> [usize; 2] {
 fn fill_from(state: &mut State, previous: &[Cell], row: &mut [Cell]) {
     let mut s = *state;
     for (cell, written) in previous.iter().zip(row.iter_mut().rev()) {
-        for j in 0..CELL_WORDS {
-            s[j] ^= cell[j];
-        }
-        round(&mut s);
-        for j in 0..CELL_WORDS {
-            written[j] = cell[j] ^ s[j];
-        }
+        column_step(&mut s, |j| cell[j]);
+        diagonal_step(&mut s, |j, word| written[j] = cell[j] ^ word);
     }
     *state = s;
 }
 
+/// Not inlined, nor is a visit, so that the loop has all registers to itself.
+#[inline(never)]
 fn fill_and_revisit(
     state: &mut State,
     cells: &mut [Cell],
@@ -126,25 +148,25 @@ fn fill_and_revisit(
 ) {
     let mut s = *state;
     let (filled, free) = cells.split_at_mut(row0 * columns);
-    let prev0 = row0 - 1;
+    let place = |row, col| row * columns + col;
     for (col, written) in free[..columns].iter_mut().rev().enumerate() {
-        let previous = filled[prev0 * columns + col];
-        let other = filled[prev1 * columns + col];
-        let revisited = &mut filled[row1 * columns + col];
-        for j in 0..CELL_WORDS {
-            s[j] ^= revisited[j]
-                .wrapping_add(previous[j])
-                .wrapping_add(other[j]);
-        }
-        round(&mut s);
-        for j in 0..CELL_WORDS {
-            written[j] = previous[j] ^ s[j];
-            revisited[j] ^= s[(j + 2) % CELL_WORDS];
-        }
+        let previous = filled[place(row0 - 1, col)];
+        let other = &filled[place(prev1, col)];
+        let revisited = &filled[place(row1, col)];
+        column_step(&mut s, |j| {
+            let sum = revisited[j].wrapping_add(previous[j]);
+            sum.wrapping_add(other[j])
+        });
+        let revisited = &mut filled[place(row1, col)];
+        diagonal_step(&mut s, |j, word| {
+            written[j] = previous[j] ^ word;
+            revisited[rotated(j)] ^= word;
+        });
     }
     *state = s;
 }
 
+#[inline(never)]
 fn visit(
     state: &mut State,
     cells: &mut [Cell],
@@ -154,29 +176,29 @@ fn visit(
 ) {
     let mut s = *state;
     for col in 0..columns {
-        let [col0, col1] = [s[4], s[6]].map(|word| (word % columns as u64) as usize);
-        let (x, y) = (&cells[row0 * columns + col], &cells[row1 * columns + col]);
-        let (p, q) = (
-            &cells[prev0 * columns + col0],
-            &cells[prev1 * columns + col1],
-        );
-        for j in 0..CELL_WORDS {
-            s[j] ^= x[j]
-                .wrapping_add(y[j])
-                .wrapping_add(p[j])
-                .wrapping_add(q[j]);
-        }
-        round(&mut s);
-        let cell = &mut cells[row0 * columns + col];
-        for j in 0..CELL_WORDS {
-            cell[j] ^= s[j];
-        }
-        let cell = &mut cells[row1 * columns + col];
-        for j in 0..CELL_WORDS {
-            cell[j] ^= s[(j + 2) % CELL_WORDS];
-        }
+        let [col0, col1] = [s[4], s[6]].map(|word| remainder(word, columns));
+        let [x, y] = [row0, row1].map(|row| row * columns + col);
+        let cell = [x, y, prev0 * columns + col0, prev1 * columns + col1].map(|at| &cells[at]);
+        column_step(&mut s, |j| {
+            let sum = cell[0][j].wrapping_add(cell[1][j]);
+            sum.wrapping_add(cell[2][j]).wrapping_add(cell[3][j])
+        });
+        diagonal_step(&mut s, |j, word| {
+            cells[x][j] ^= word;
+            cells[y][rotated(j)] ^= word;
+        });
     }
     *state = s;
+}
+
+/// The remainder by a number of columns, which is mostly a power of two.
+#[inline(always)]
+fn remainder(word: u64, columns: usize) -> usize {
+    if columns.is_power_of_two() {
+        word as usize & (columns - 1)
+    } else {
+        (word % columns as u64) as usize
+    }
 }
 
 fn squeeze(s: &mut State, key: &mut [u8]) {
