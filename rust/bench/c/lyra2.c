@@ -2,7 +2,7 @@
  * The plain derivation in C with intrinsics, to set the proved one beside. It is compiled once for each set of
  * instructions: sse2.h or avx2.h has the registers and the round, and everything else stands here once.
  *
- * The caller answers for what the checks would refuse. Words are little-endian, as on every x86-64.
+ * The caller answers for what the checks would refuse, and lends a matrix of 12 * R * C words.
  */
 #include <stddef.h>
 #include <stdint.h>
@@ -24,6 +24,21 @@ static const uint64_t STARTING_WORDS[STATE_WORDS] = {
     0x510e527fade682d1, 0x9b05688c2b3e6c1f, 0x1f83d9abfb41bd6b, 0x5be0cd19137e2179,
 };
 
+/* What is asked, and the lent buffers; src/intrinsics.rs has the same. */
+typedef struct {
+    uint8_t *key;
+    size_t key_len;
+    const uint8_t *password;
+    size_t password_len;
+    const uint8_t *salt;
+    size_t salt_len;
+    uint32_t t, r, c;
+    uint64_t *matrix;
+} Derivation;
+
+/* The only functions with a name outside, one a compilation. */
+void DERIVE(const Derivation *asked);
+
 typedef struct {
     uint64_t *words;
     size_t rows, columns;
@@ -41,18 +56,23 @@ static void full_call(Vector *s)
         permute_round(s);
 }
 
-static void absorb_block(Vector *s, const uint8_t *block)
-{
-    for (int i = 0; i < BLOCK_BYTES / 8 / LANES; i++)
-        s[i] = exclusive_or(s[i], load((const uint64_t *)(block + 8 * LANES * i)));
-    full_call(s);
-}
-
-/* Appends to a block and absorbs it whenever it is full. */
+/* A block of the padded input while it fills. */
 typedef struct {
     uint8_t bytes[BLOCK_BYTES];
     size_t used;
 } Block;
+
+static void absorb_block(Vector *s, Block *block)
+{
+    uint64_t words[BLOCK_BYTES / 8];
+    memcpy(words, block->bytes, BLOCK_BYTES);
+    for (int i = 0; i < BLOCK_BYTES / 8 / LANES; i++)
+        s[i] = exclusive_or(s[i], load(words + LANES * i));
+    full_call(s);
+    block->used = 0;
+}
+
+/* Appends to the block and absorbs it whenever it is full. */
 
 static void append(Vector *s, Block *block, const void *from, size_t len)
 {
@@ -62,10 +82,8 @@ static void append(Vector *s, Block *block, const void *from, size_t len)
         size_t n = len < free_bytes ? len : free_bytes;
         memcpy(block->bytes + block->used, bytes, n);
         block->used += n, bytes += n, len -= n;
-        if (block->used == BLOCK_BYTES) {
-            absorb_block(s, block->bytes);
-            block->used = 0;
-        }
+        if (block->used == BLOCK_BYTES)
+            absorb_block(s, block);
     }
 }
 
@@ -74,7 +92,7 @@ static void absorb_padding(Vector *s, Block *block)
     memset(block->bytes + block->used, 0, BLOCK_BYTES - block->used);
     block->bytes[block->used] |= 0x80;
     block->bytes[BLOCK_BYTES - 1] |= 0x01;
-    absorb_block(s, block->bytes);
+    absorb_block(s, block);
 }
 
 static void fill_first_row(Vector *s, const Matrix *m)
@@ -216,22 +234,27 @@ static void squeeze(Vector *s, uint8_t *key, size_t key_len)
     }
 }
 
-void DERIVE(uint8_t *key, size_t key_len, const uint8_t *password, size_t password_len, const uint8_t *salt,
-            size_t salt_len, uint32_t t, uint32_t r, uint32_t c, uint64_t *matrix)
+static void absorb_input(Vector *s, const Derivation *asked)
+{
+    uint32_t numbers[6] = {(uint32_t)asked->key_len,  (uint32_t)asked->password_len,
+                           (uint32_t)asked->salt_len, asked->t, asked->r, asked->c};
+    Block block = {.used = 0};
+    append(s, &block, asked->password, asked->password_len);
+    append(s, &block, asked->salt, asked->salt_len);
+    append(s, &block, numbers, sizeof numbers);
+    absorb_padding(s, &block);
+}
+
+void DERIVE(const Derivation *asked)
 {
     Vector s[STATE_VECTORS];
     memcpy(s, STARTING_WORDS, sizeof s);
-    Block block = {.used = 0};
-    uint32_t numbers[6] = {(uint32_t)key_len, (uint32_t)password_len, (uint32_t)salt_len, t, r, c};
-    append(s, &block, password, password_len);
-    append(s, &block, salt, salt_len);
-    append(s, &block, numbers, sizeof numbers);
-    absorb_padding(s, &block);
-    Matrix m = {matrix, r, c};
+    absorb_input(s, asked);
+    Matrix m = {asked->matrix, asked->r, asked->c};
     Rows rows = setup(s, &m);
-    uint64_t *last = row_of(&m, wander(s, &m, (uint64_t)r * t, rows));
+    uint64_t *last = row_of(&m, wander(s, &m, (uint64_t)asked->r * asked->t, rows));
     for (int i = 0; i < CELL_VECTORS; i++)
         s[i] = exclusive_or(s[i], load(last + LANES * i));
     full_call(s);
-    squeeze(s, key, key_len);
+    squeeze(s, asked->key, asked->key_len);
 }

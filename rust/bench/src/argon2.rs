@@ -40,6 +40,28 @@ struct Context {
     flags: u32,
 }
 
+/// One lane and one thread, in lent memory, of nothing.
+const ONE_LANE: Context = Context {
+    out: null_mut(),
+    out_len: 0,
+    password: null(),
+    password_len: 0,
+    salt: null(),
+    salt_len: 0,
+    secret: null(),
+    secret_len: 0,
+    associated: null(),
+    associated_len: 0,
+    time_cost: 0,
+    memory_kibibytes: 0,
+    lanes: 1,
+    threads: 1,
+    version: VERSION_1_3,
+    allocate: lend,
+    free: take_back,
+    flags: 0,
+};
+
 type Run = unsafe extern "C" fn(context: *mut Context, kind: c_int) -> c_int;
 
 thread_local! {
@@ -90,18 +112,9 @@ impl Argon2 {
             password_len: narrow(password.len()),
             salt: salt.as_ptr(),
             salt_len: narrow(salt.len()),
-            secret: null(),
-            secret_len: 0,
-            associated: null(),
-            associated_len: 0,
             time_cost: passes,
             memory_kibibytes: narrow(bytes / BYTES_PER_KIBIBYTE),
-            lanes: 1,
-            threads: 1,
-            version: VERSION_1_3,
-            allocate: lend,
-            free: take_back,
-            flags: 0,
+            ..ONE_LANE
         };
         // SAFETY: every pointer goes with its length and outlives the call; the library asks for its memory by
         // `lend` in this thread, since one thread is asked for.
