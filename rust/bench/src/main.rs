@@ -10,7 +10,7 @@ const USAGE: &str = "\
 usage: bench [table] [--quick]      the tables, in Markdown
        bench plot FILE [--quick]    time against memory, as an SVG picture
        bench once PROGRAM R C       one derivation, for a tool that counts instructions
---quick makes fewer turns.";
+--quick makes one pass over the measurements instead of four.";
 
 fn main() -> ExitCode {
     let mut words: Vec<String> = std::env::args().skip(1).collect();

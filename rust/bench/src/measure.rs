@@ -11,10 +11,34 @@ use std::time::Instant;
 /// What the key and the matrix hold before a run.
 const BEFORE: u8 = 0xa5;
 
+/// How often all measurements are gone through, so that what disturbs the machine for a while disturbs them all.
+const PASSES: usize = 4;
+
+/// The number of passes; a quick run makes one.
+pub fn passes(quick: bool) -> usize {
+    if quick {
+        1
+    } else {
+        PASSES
+    }
+}
+
 /// The seconds that a program took, in rising order.
+#[derive(Clone, Default)]
 pub struct Times(Vec<f64>);
 
 impl Times {
+    /// Takes in the times of another pass.
+    pub fn add(&mut self, other: Times) {
+        self.0.extend(other.0);
+        self.0.sort_by(f64::total_cmp);
+    }
+
+    /// How many there are.
+    pub fn count(&self) -> usize {
+        self.0.len()
+    }
+
     /// The shortest time.
     pub fn minimum(&self) -> f64 {
         self.0[0]
@@ -67,6 +91,14 @@ pub fn measure(inputs: &Inputs, programs: &[&Program], turns: usize) -> Vec<Time
         }
     }
     times.into_iter().map(sorted).collect()
+}
+
+/// Adds the times of a pass to those of the passes before, program by program.
+pub fn add_pass(all: &mut Vec<Times>, pass: Vec<Times>) {
+    all.resize_with(pass.len(), Times::default);
+    for (times, more) in all.iter_mut().zip(pass) {
+        times.add(more);
+    }
 }
 
 /// The seconds of one derivation.

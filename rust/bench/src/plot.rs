@@ -77,7 +77,8 @@ pub fn svg(plot: &Plot) -> String {
     text(&mut out, middle, BOTTOM + 48.0, "", &plot.x_label);
     let turned = format!("transform=\"rotate(-90 24 {0})\"", (TOP + BOTTOM) / 2.0);
     text(&mut out, 24.0, (TOP + BOTTOM) / 2.0, &turned, &plot.y_label);
-    for (number, line) in plot.lines.iter().enumerate() {
+    // The first line is drawn last, over the others.
+    for (number, line) in plot.lines.iter().enumerate().rev() {
         draw(&mut out, line, number, &x, &y);
     }
     legend(&mut out, &plot.lines);
@@ -152,11 +153,10 @@ fn draw(out: &mut String, line: &Line, number: usize, x: &Axis, y: &Axis) {
 fn marker(out: &mut String, number: usize, x: f64, y: f64) {
     let colour = COLOURS[number % COLOURS.len()];
     let fill = if number < 4 { colour } else { "white" };
+    let style = format!("fill=\"{fill}\" stroke=\"{colour}\" stroke-width=\"2\"");
     let corners: &[(f64, f64)] = match number % 4 {
         0 => {
-            *out += &format!(
-                "<circle cx=\"{x:.1}\" cy=\"{y:.1}\" r=\"4.5\" fill=\"{fill}\" stroke=\"{colour}\" stroke-width=\"2\"/>\n"
-            );
+            *out += &format!("<circle cx=\"{x:.1}\" cy=\"{y:.1}\" r=\"4.5\" {style}/>\n");
             return;
         }
         1 => &[(-4.0, -4.0), (4.0, -4.0), (4.0, 4.0), (-4.0, 4.0)],
@@ -167,9 +167,7 @@ fn marker(out: &mut String, number: usize, x: f64, y: f64) {
         .iter()
         .map(|(dx, dy)| format!("{:.1},{:.1}", x + dx, y + dy));
     let corners = corners.collect::<Vec<_>>().join(" ");
-    *out += &format!(
-        "<polygon points=\"{corners}\" fill=\"{fill}\" stroke=\"{colour}\" stroke-width=\"2\"/>\n"
-    );
+    *out += &format!("<polygon points=\"{corners}\" {style}/>\n");
 }
 
 /// A box in the upper left corner, where a rising line has not yet come.

@@ -1,18 +1,16 @@
 //! The tables of docs/PERFORMANCE.md.
 
-use crate::measure::{measure, Times};
+use crate::measure::{add_pass, measure, passes, Times};
 use crate::programs::{Program, C_SSE2, RUST_FOR_SPEED};
 use lyra2_reference::Inputs;
 
-/// R, C and the number of turns: 6 MiB twice, then 96 MiB twice.
+/// R, C and the number of turns in a pass: 6 MiB twice, then 96 MiB twice.
 const SHAPES: [(u64, u64, usize); 4] = [
-    (1024, 64, 160),
-    (256, 256, 160),
-    (16_384, 64, 32),
-    (4096, 256, 32),
+    (1024, 64, 40),
+    (256, 256, 40),
+    (16_384, 64, 8),
+    (4096, 256, 8),
 ];
-/// A quick run makes so many times fewer turns.
-const QUICK: usize = 8;
 
 const HEAD: [&str; 5] = [
     "program",
@@ -44,16 +42,20 @@ pub fn mebibytes(inputs: &Inputs) -> f64 {
 /// Measures every shape and prints a table for each.
 pub fn print(programs: &[Program], quick: bool) {
     let programs: Vec<&Program> = programs.iter().collect();
+    let mut times = SHAPES.map(|_| Vec::new());
+    for _ in 0..passes(quick) {
+        for ((r, c, turns), times) in SHAPES.into_iter().zip(&mut times) {
+            add_pass(times, measure(&inputs(r, c), &programs, turns));
+        }
+    }
     println!(
         "Every field holds the minimum and the median of all turns; a ratio above 1 is slower."
     );
-    for (r, c, turns) in SHAPES {
-        let turns = if quick { turns / QUICK } else { turns };
+    for ((r, c, _), times) in SHAPES.into_iter().zip(&times) {
         let inputs = inputs(r, c);
-        let times = measure(&inputs, &programs, turns);
-        let size = mebibytes(&inputs);
+        let (size, turns) = (mebibytes(&inputs), times[0].count());
         println!("\n**{size} MiB:** T 1, R {r}, C {c}, {turns} turns\n");
-        print!("{}", markdown(&inputs, &programs, &times));
+        print!("{}", markdown(&inputs, &programs, times));
     }
 }
 
