@@ -37,7 +37,7 @@ fn run(command: &mut Command) {
         Ok(status) if status.success() => return,
         Ok(status) => eprintln!("{}: {status}", name.display()),
         Err(error) => eprintln!(
-            "the benchmark needs a C compiler: {}: {error}",
+            "the C programs of the benchmark need `{}`: {error}",
             name.display()
         ),
     }

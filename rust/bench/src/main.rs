@@ -4,6 +4,7 @@
 
 use bench::programs::{self, Lent};
 use bench::{machine, plot, sizes, table};
+use lyra2_reference::refusal::check_parameters;
 use std::process::ExitCode;
 
 const USAGE: &str = "\
@@ -37,7 +38,7 @@ fn print_tables(quick: bool) -> Result<(), String> {
     println!("{}", machine::description());
     table::print(&programs, quick);
     for line in missing {
-        println!("{line}");
+        println!("\n{line}");
     }
     Ok(())
 }
@@ -59,6 +60,7 @@ fn once(name: &str, r: &str, c: &str) -> Result<(), String> {
     let program = named.ok_or(format!("the programs are: {}", names.join("; ")))?;
     let number = |text: &str| text.parse().map_err(|_| USAGE.to_string());
     let inputs = table::inputs(number(r)?, number(c)?);
+    check_parameters(&inputs.parameters(32)).map_err(|refusal| refusal.to_string())?;
     (program.derive)(&inputs, &mut Lent::new(&inputs));
     Ok(())
 }
