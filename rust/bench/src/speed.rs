@@ -1,12 +1,36 @@
 //! The plain derivation in safe Rust written for speed, to set the proved one beside.
 //!
-//! Every loop over columns holds the state in a local array, and cells are arrays, so that the compiler can
-//! unroll the rounds and the loops over words and needs few bounds checks. A round is cut in its two halves: the
-//! first takes its words in just before they are used and the second gives them out as soon as they are final, so
-//! that few of them wait outside the registers.
+//! State and matrix are shared words (`Cell`), since two rows of a visit may be one. It is also faster: a compiler
+//! that knows state and matrix to be apart sums in vector registers and then has to take the sums to pieces for the
+//! round. The output is copied before it is written, so that the XORs into the matrix are done in vector registers.
 
-use lyra2_reference::sponge::{Cell, State, BLOCK_WORDS, CELL_WORDS, STARTING_WORDS};
+use lyra2_reference::sponge::{State, BLOCK_WORDS, CELL_WORDS, FULL_ROUNDS, STARTING_WORDS};
 use lyra2_reference::Inputs;
+use std::cell::Cell as Word;
+
+/// The state as shared words.
+type Shared = [Word<u64>; 16];
+/// The words of a cell of the matrix.
+type Cell = [Word<u64>; CELL_WORDS];
+
+/// The plain derivation, for inputs and a matrix that no check refuses.
+pub fn derive(inputs: &Inputs, key: &mut [u8], matrix: &mut [u64]) {
+    let mut start = [0; 16];
+    start[8..].copy_from_slice(&STARTING_WORDS);
+    let s = &start.map(Word::new);
+    absorb_input(s, inputs, key.len());
+    let (rows, columns) = (inputs.r as usize, inputs.c as usize);
+    let words = Word::from_mut(matrix).as_slice_of_cells();
+    let cells = &words.as_chunks().0[..rows * columns];
+    let mut last = setup(s, cells, columns);
+    for _ in 0..rows * inputs.t as usize {
+        let picked = [&s[0], &s[2]].map(|word| (word.get() % inputs.r) as usize);
+        visit(s, cells, columns, picked, last);
+        last = picked;
+    }
+    absorb(s, cells[last[0] * columns].iter().map(Word::get));
+    squeeze(s, key);
+}
 
 #[inline(always)]
 fn g(s: &mut State, i: usize, j: usize, k: usize, l: usize) {
@@ -20,73 +44,52 @@ fn g(s: &mut State, i: usize, j: usize, k: usize, l: usize) {
     s[j] = (s[j] ^ s[k]).rotate_right(63);
 }
 
-/// The first half of a round: G on the columns of the state as a square, each after its words were given in.
-#[inline(always)]
-fn column_step(s: &mut State, given: impl Fn(usize) -> u64) {
-    for i in 0..4 {
-        for j in [i, 4 + i, 8 + i] {
-            s[j] ^= given(j);
-        }
-        g(s, i, 4 + i, 8 + i, 12 + i);
-    }
+/// Not inlined, so that the round has all registers to itself.
+#[inline(never)]
+fn round(shared: &Shared) {
+    let mut s = shared.each_ref().map(Word::get);
+    g(&mut s, 0, 4, 8, 12);
+    g(&mut s, 1, 5, 9, 13);
+    g(&mut s, 2, 6, 10, 14);
+    g(&mut s, 3, 7, 11, 15);
+    g(&mut s, 0, 5, 10, 15);
+    g(&mut s, 1, 6, 11, 12);
+    g(&mut s, 2, 7, 8, 13);
+    g(&mut s, 3, 4, 9, 14);
+    put(shared, s);
 }
 
-/// The second half: G on the diagonals, each before its words of the output are handed out.
-#[inline(always)]
-fn diagonal_step(s: &mut State, mut hand_out: impl FnMut(usize, u64)) {
-    for i in 0..4 {
-        let [j, k, l] = [4 + (i + 1) % 4, 8 + (i + 2) % 4, 12 + (i + 3) % 4];
-        g(s, i, j, k, l);
-        for word in [i, j, k] {
-            hand_out(word, s[word]);
-        }
-    }
-}
-
-#[inline(always)]
-fn round(s: &mut State) {
-    column_step(s, |_| 0);
-    diagonal_step(s, |_, _| ());
-}
-
-/// The place where a word of the output goes when the output is rotated by two words.
-#[inline(always)]
-fn rotated(j: usize) -> usize {
-    (j + CELL_WORDS - 2) % CELL_WORDS
-}
-
-fn absorb(s: &mut State, words: &[u64]) {
-    for (word, absorbed) in s.iter_mut().zip(words) {
-        *word ^= absorbed;
-    }
-    full_call(s);
-}
-
-fn full_call(s: &mut State) {
-    for _ in 0..12 {
+fn full_call(s: &Shared) {
+    for _ in 0..FULL_ROUNDS {
         round(s);
     }
 }
 
-/// The plain derivation, for inputs and a matrix that no check refuses.
-pub fn derive(inputs: &Inputs, key: &mut [u8], matrix: &mut [u64]) {
-    let mut s = [0; 16];
-    s[8..].copy_from_slice(&STARTING_WORDS);
-    absorb_input(&mut s, inputs, key.len());
-    let (rows, columns) = (inputs.r as usize, inputs.c as usize);
-    let (cells, _) = matrix.as_chunks_mut::<CELL_WORDS>();
-    let cells = &mut cells[..rows * columns];
-    let mut last = setup(&mut s, cells, columns);
-    for _ in 0..rows * inputs.t as usize {
-        let picked = [s[0], s[2]].map(|word| (word % inputs.r) as usize);
-        visit(&mut s, cells, columns, picked, last);
-        last = picked;
+#[inline(always)]
+fn put<const N: usize>(places: &[Word<u64>; N], words: [u64; N]) {
+    for (place, word) in places.iter().zip(words) {
+        place.set(word);
     }
-    absorb(&mut s, &cells[last[0] * columns]);
-    squeeze(&mut s, key);
 }
 
-fn absorb_input(s: &mut State, inputs: &Inputs, key_len: usize) {
+#[inline(always)]
+fn xor(place: &Word<u64>, word: u64) {
+    place.set(place.get() ^ word);
+}
+
+#[inline(always)]
+fn output(s: &Shared) -> [u64; CELL_WORDS] {
+    std::array::from_fn(|j| s[j].get())
+}
+
+fn absorb(s: &Shared, words: impl Iterator<Item = u64>) {
+    for (place, word) in s.iter().zip(words) {
+        xor(place, word);
+    }
+    full_call(s);
+}
+
+fn absorb_input(s: &Shared, inputs: &Inputs, key_len: usize) {
     let lengths = [key_len, inputs.password.len(), inputs.salt.len()].map(|len| len as u64);
     let numbers = [lengths, [inputs.t, inputs.r, inputs.c]].concat();
     let mut input = [inputs.password, inputs.salt].concat();
@@ -95,27 +98,24 @@ fn absorb_input(s: &mut State, inputs: &Inputs, key_len: usize) {
     input.resize(input.len().next_multiple_of(8 * BLOCK_WORDS), 0);
     *input.last_mut().expect("the padding has a byte") |= 0x01;
     let (words, _) = input.as_chunks::<8>();
-    let words: Vec<u64> = words.iter().map(|&w| u64::from_le_bytes(w)).collect();
     for block in words.chunks_exact(BLOCK_WORDS) {
-        absorb(s, block);
+        absorb(s, block.iter().map(|&word| u64::from_le_bytes(word)));
     }
 }
 
 /// Fills the matrix; returns the row filled last and the row revisited last.
-fn setup(s: &mut State, cells: &mut [Cell], columns: usize) -> [usize; 2] {
-    for cell in cells[..columns].iter_mut().rev() {
-        cell.copy_from_slice(&s[..CELL_WORDS]);
+fn setup(s: &Shared, cells: &[Cell], columns: usize) -> [usize; 2] {
+    let rows: Vec<&[Cell]> = cells.chunks_exact(columns).collect();
+    for cell in rows[0].iter().rev() {
+        put(cell, output(s));
         round(s);
     }
-    let rows = cells.len() / columns;
-    let (first, later) = cells.split_at_mut(columns);
-    fill_from(s, first, &mut later[..columns]);
-    let (second, third) = later.split_at_mut(columns);
-    fill_from(s, second, &mut third[..columns]);
+    fill_from(s, rows[0], rows[1]);
+    fill_from(s, rows[1], rows[2]);
     let (mut gap, mut step, mut window, mut root) = (1isize, 1, 2, 2usize);
     let (mut row1, mut prev1) = (1, 0);
-    for row0 in 3..rows {
-        fill_and_revisit(s, cells, columns, row0, [row1, prev1]);
+    for row0 in 3..rows.len() {
+        fill_and_revisit(s, rows[row0], rows[row1], [rows[row0 - 1], rows[prev1]]);
         prev1 = row1;
         row1 = (row1 + step) % window;
         if row1 == 0 {
@@ -125,70 +125,56 @@ fn setup(s: &mut State, cells: &mut [Cell], columns: usize) -> [usize; 2] {
             root = if gap == -1 { 2 * root } else { root };
         }
     }
-    [rows - 1, prev1]
+    [rows.len() - 1, prev1]
 }
 
-fn fill_from(state: &mut State, previous: &[Cell], row: &mut [Cell]) {
-    let mut s = *state;
-    for (cell, written) in previous.iter().zip(row.iter_mut().rev()) {
-        column_step(&mut s, |j| cell[j]);
-        diagonal_step(&mut s, |j, word| written[j] = cell[j] ^ word);
+fn fill_from(s: &Shared, previous: &[Cell], row: &[Cell]) {
+    for (cell, written) in previous.iter().zip(row.iter().rev()) {
+        for j in 0..CELL_WORDS {
+            xor(&s[j], cell[j].get());
+        }
+        round(s);
+        put(written, std::array::from_fn(|j| cell[j].get() ^ s[j].get()));
     }
-    *state = s;
-}
-
-/// Not inlined, nor is a visit, so that the loop has all registers to itself.
-#[inline(never)]
-fn fill_and_revisit(
-    state: &mut State,
-    cells: &mut [Cell],
-    columns: usize,
-    row0: usize,
-    [row1, prev1]: [usize; 2],
-) {
-    let mut s = *state;
-    let (filled, free) = cells.split_at_mut(row0 * columns);
-    let place = |row, col| row * columns + col;
-    for (col, written) in free[..columns].iter_mut().rev().enumerate() {
-        let previous = filled[place(row0 - 1, col)];
-        let other = &filled[place(prev1, col)];
-        let revisited = &filled[place(row1, col)];
-        column_step(&mut s, |j| {
-            let sum = revisited[j].wrapping_add(previous[j]);
-            sum.wrapping_add(other[j])
-        });
-        let revisited = &mut filled[place(row1, col)];
-        diagonal_step(&mut s, |j, word| {
-            written[j] = previous[j] ^ word;
-            revisited[rotated(j)] ^= word;
-        });
-    }
-    *state = s;
 }
 
 #[inline(never)]
-fn visit(
-    state: &mut State,
-    cells: &mut [Cell],
-    columns: usize,
-    [row0, row1]: [usize; 2],
-    [prev0, prev1]: [usize; 2],
-) {
-    let mut s = *state;
-    for col in 0..columns {
-        let [col0, col1] = [s[4], s[6]].map(|word| remainder(word, columns));
-        let [x, y] = [row0, row1].map(|row| row * columns + col);
-        let cell = [x, y, prev0 * columns + col0, prev1 * columns + col1].map(|at| &cells[at]);
-        column_step(&mut s, |j| {
-            let sum = cell[0][j].wrapping_add(cell[1][j]);
-            sum.wrapping_add(cell[2][j]).wrapping_add(cell[3][j])
-        });
-        diagonal_step(&mut s, |j, word| {
-            cells[x][j] ^= word;
-            cells[y][rotated(j)] ^= word;
-        });
+fn fill_and_revisit(s: &Shared, row: &[Cell], revisited: &[Cell], previous: [&[Cell]; 2]) {
+    let read = revisited.iter().zip(previous[0]).zip(previous[1]);
+    for (((x, p), q), written) in read.zip(row.iter().rev()) {
+        for j in 0..CELL_WORDS {
+            let sum = x[j].get().wrapping_add(p[j].get());
+            xor(&s[j], sum.wrapping_add(q[j].get()));
+        }
+        round(s);
+        let rand = output(s);
+        put(written, std::array::from_fn(|j| p[j].get() ^ rand[j]));
+        for j in 0..CELL_WORDS {
+            xor(&x[j], rand[(j + 2) % CELL_WORDS]);
+        }
     }
-    *state = s;
+}
+
+#[inline(never)]
+fn visit(s: &Shared, cells: &[Cell], columns: usize, rows: [usize; 2], previous: [usize; 2]) {
+    let [xs, ys] = rows.map(|row| &cells[row * columns..][..columns]);
+    let [ps, qs] = previous.map(|row| &cells[row * columns..][..columns]);
+    for (x, y) in xs.iter().zip(ys) {
+        let p = &ps[remainder(s[4].get(), columns)];
+        let q = &qs[remainder(s[6].get(), columns)];
+        for j in 0..CELL_WORDS {
+            let sum = x[j].get().wrapping_add(y[j].get());
+            xor(&s[j], sum.wrapping_add(p[j].get()).wrapping_add(q[j].get()));
+        }
+        round(s);
+        let rand = output(s);
+        for j in 0..CELL_WORDS {
+            xor(&x[j], rand[j]);
+        }
+        for j in 0..CELL_WORDS {
+            xor(&y[j], rand[(j + 2) % CELL_WORDS]);
+        }
+    }
 }
 
 /// The remainder by a number of columns, which is mostly a power of two.
@@ -201,12 +187,12 @@ fn remainder(word: u64, columns: usize) -> usize {
     }
 }
 
-fn squeeze(s: &mut State, key: &mut [u8]) {
+fn squeeze(s: &Shared, key: &mut [u8]) {
     for (number, piece) in key.chunks_mut(8 * CELL_WORDS).enumerate() {
         if number > 0 {
             full_call(s);
         }
-        let bytes = s.iter().flat_map(|word| word.to_le_bytes());
+        let bytes = s.iter().flat_map(|word| word.get().to_le_bytes());
         piece.iter_mut().zip(bytes).for_each(|(x, y)| *x = y);
     }
 }
