@@ -1,0 +1,57 @@
+//! Compiles c/lyra2.c twice, for every x86-64 processor and for those with AVX2, and notes the compilers.
+
+use std::path::{Path, PathBuf};
+use std::process::Command;
+
+/// The name of an object file and the options that make it.
+const OBJECTS: [(&str, &[&str]); 2] = [("sse2.o", &[]), ("avx2.o", &["-mavx2"])];
+
+fn main() {
+    println!("cargo:rerun-if-changed=build.rs");
+    println!("cargo:rerun-if-changed=c");
+    let folder = PathBuf::from(variable("OUT_DIR"));
+    let objects = OBJECTS.map(|(name, options)| compile(&folder.join(name), options));
+    let archive = folder.join("libbench_c.a");
+    // An archive of an earlier build could still hold other objects.
+    let _ = std::fs::remove_file(&archive);
+    run(Command::new("ar").arg("crs").arg(archive).args(objects));
+    println!("cargo:rustc-link-search=native={}", folder.display());
+    println!("cargo:rustc-link-lib=static=bench_c");
+    let rustc = variable("RUSTC");
+    println!("cargo:rustc-env=RUST_COMPILER={}", first_line(&rustc));
+    println!("cargo:rustc-env=C_COMPILER={}", first_line("cc"));
+}
+
+fn compile(object: &Path, options: &[&str]) -> PathBuf {
+    let common = ["-O3", "-std=c11", "-Wall", "-Wextra", "-fPIC", "-c"];
+    let mut cc = Command::new("cc");
+    cc.args(common).args(options).arg("c/lyra2.c").arg("-o");
+    run(cc.arg(object));
+    object.to_path_buf()
+}
+
+/// Runs a command, or ends the build with a line that says what is missing or failed.
+fn run(command: &mut Command) {
+    let name = command.get_program().to_owned();
+    match command.status() {
+        Ok(status) if status.success() => return,
+        Ok(status) => eprintln!("{}: {status}", name.display()),
+        Err(error) => eprintln!(
+            "the C programs of the benchmark need `{}`: {error}",
+            name.display()
+        ),
+    }
+    std::process::exit(1);
+}
+
+/// The first line of what a compiler says of its version.
+fn first_line(compiler: &str) -> String {
+    let output = Command::new(compiler).arg("--version").output();
+    let output = output.map(|output| output.stdout).unwrap_or_default();
+    let text = String::from_utf8_lossy(&output);
+    text.lines().next().unwrap_or("unknown").to_string()
+}
+
+fn variable(name: &str) -> String {
+    std::env::var(name).expect("cargo sets this")
+}

@@ -1,0 +1,64 @@
+//! The plain derivation in C with intrinsics, of c/lyra2.c.
+
+use lyra2_reference::refusal::check_matrix;
+use lyra2_reference::Inputs;
+
+/// Derivation of c/lyra2.c: what is asked, and the lent buffers.
+#[repr(C)]
+struct Derivation {
+    key: *mut u8,
+    key_len: usize,
+    password: *const u8,
+    password_len: usize,
+    salt: *const u8,
+    salt_len: usize,
+    t: u32,
+    r: u32,
+    c: u32,
+    matrix: *mut u64,
+}
+
+extern "C" {
+    fn bench_derive_sse2(asked: *const Derivation);
+    fn bench_derive_avx2(asked: *const Derivation);
+}
+
+/// The derivation with SSE2, for inputs and buffers that no check refuses.
+pub fn derive_sse2(inputs: &Inputs, key: &mut [u8], matrix: &mut [u64]) {
+    derive(bench_derive_sse2, inputs, key, matrix);
+}
+
+/// The derivation with AVX2, for inputs and buffers that no check refuses.
+pub fn derive_avx2(inputs: &Inputs, key: &mut [u8], matrix: &mut [u64]) {
+    assert!(has_avx2(), "this processor has no AVX2");
+    derive(bench_derive_avx2, inputs, key, matrix);
+}
+
+/// Whether the processor has AVX2.
+pub fn has_avx2() -> bool {
+    std::arch::is_x86_feature_detected!("avx2")
+}
+
+fn derive(
+    foreign: unsafe extern "C" fn(*const Derivation),
+    inputs: &Inputs,
+    key: &mut [u8],
+    matrix: &mut [u64],
+) {
+    check_matrix(&inputs.parameters(key.len()), matrix).expect("no check refuses");
+    let asked = Derivation {
+        key: key.as_mut_ptr(),
+        key_len: key.len(),
+        password: inputs.password.as_ptr(),
+        password_len: inputs.password.len(),
+        salt: inputs.salt.as_ptr(),
+        salt_len: inputs.salt.len(),
+        t: inputs.t as u32,
+        r: inputs.r as u32,
+        c: inputs.c as u32,
+        matrix: matrix.as_mut_ptr(),
+    };
+    // SAFETY: the checks bound T, R, C and the lengths, so that the function stays inside the key and the first
+    // 12·R·C words of the matrix, and the processor has its instructions.
+    unsafe { foreign(&asked) }
+}

@@ -1,0 +1,116 @@
+//! The turns in which the programs run, and their times.
+//!
+//! In each turn every program derives once, in the same buffers, which are overwritten before; all must leave
+//! the key and the matrix that the second program leaves. From turn to turn the programs change their order.
+
+use crate::programs::{Lent, Program};
+use lyra2_reference::vectors::{Reference, Subject};
+use lyra2_reference::Inputs;
+use std::time::Instant;
+
+/// What the key and the matrix hold before a run.
+const BEFORE: u8 = 0xa5;
+
+/// How often all measurements are gone through, so that what disturbs the machine for a while disturbs them all.
+const PASSES: usize = 4;
+
+/// The number of passes; a quick run makes one.
+pub fn passes(quick: bool) -> usize {
+    if quick {
+        1
+    } else {
+        PASSES
+    }
+}
+
+/// The seconds that a program took, in rising order.
+#[derive(Clone, Default)]
+pub struct Times(Vec<f64>);
+
+impl Times {
+    /// Takes in the times of another pass.
+    pub fn add(&mut self, other: Times) {
+        self.0.extend(other.0);
+        self.0.sort_by(f64::total_cmp);
+    }
+
+    /// How many there are.
+    pub fn count(&self) -> usize {
+        self.0.len()
+    }
+
+    /// The shortest time.
+    pub fn minimum(&self) -> f64 {
+        self.0[0]
+    }
+
+    /// The time in the middle.
+    pub fn median(&self) -> f64 {
+        self.0[self.0.len() / 2]
+    }
+}
+
+/// What a program of Lyra2 has to leave.
+struct Due {
+    key: [u8; 32],
+    matrix: Vec<u64>,
+}
+
+impl Due {
+    fn new(inputs: &Inputs) -> Due {
+        let mut key = [0; 32];
+        let mut matrix = vec![0; inputs.parameters(32).matrix_words() as usize];
+        let answer = Reference.derive(inputs, &mut key, &mut matrix);
+        answer.expect("no check refuses");
+        Due { key, matrix }
+    }
+
+    /// Ends the benchmark if a program left something else.
+    fn assert_left(&self, program: &Program, lent: &mut Lent) {
+        assert_ne!(lent.key, [BEFORE; 32], "{} left no key", program.name);
+        if program.lyra2 {
+            assert_eq!(lent.key, self.key, "the key of {}", program.name);
+            let same = lent.matrix() == self.matrix;
+            assert!(same, "the end matrix of {} is another", program.name);
+        }
+    }
+}
+
+/// The times of every program, in the order of the programs.
+pub fn measure(inputs: &Inputs, programs: &[&Program], turns: usize) -> Vec<Times> {
+    let due = Due::new(inputs);
+    let mut lent = Lent::new(inputs);
+    lent.stored = due.key;
+    let mut times = vec![Vec::with_capacity(turns); programs.len()];
+    for turn in 0..turns {
+        for place in 0..programs.len() {
+            let number = (turn + place) % programs.len();
+            let time = timed(programs[number], inputs, &mut lent);
+            due.assert_left(programs[number], &mut lent);
+            times[number].push(time);
+        }
+    }
+    times.into_iter().map(sorted).collect()
+}
+
+/// Adds the times of a pass to those of the passes before, program by program.
+pub fn add_pass(all: &mut Vec<Times>, pass: Vec<Times>) {
+    all.resize_with(pass.len(), Times::default);
+    for (times, more) in all.iter_mut().zip(pass) {
+        times.add(more);
+    }
+}
+
+/// The seconds of one derivation.
+fn timed(program: &Program, inputs: &Inputs, lent: &mut Lent) -> f64 {
+    lent.key.fill(BEFORE);
+    lent.matrix().fill(u64::from_ne_bytes([BEFORE; 8]));
+    let began = Instant::now();
+    (program.derive)(inputs, lent);
+    began.elapsed().as_secs_f64()
+}
+
+fn sorted(mut times: Vec<f64>) -> Times {
+    times.sort_by(f64::total_cmp);
+    Times(times)
+}

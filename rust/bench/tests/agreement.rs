@@ -1,0 +1,173 @@
+//! The programs that are measured derive the same key and leave the same matrix as the second program.
+
+use bench::measure::measure;
+use bench::programs::{self, Lent, Program};
+use bench::{intrinsics, speed};
+use lyra2_reference::{derive_recorded, Inputs};
+
+type Derive = fn(&Inputs, &mut [u8], &mut [u64]);
+
+/// The programs of this package; AVX2 is left out where the processor has none.
+fn derivations() -> Vec<(&'static str, Derive)> {
+    let mut all: Vec<(&str, Derive)> = vec![
+        ("Rust for speed", speed::derive),
+        ("C, SSE2", intrinsics::derive_sse2),
+    ];
+    if intrinsics::has_avx2() {
+        all.push(("C, AVX2", intrinsics::derive_avx2));
+    }
+    all
+}
+
+/// Words lent past the used matrix, which have to be kept.
+const PAST: usize = 5;
+
+/// Compares every program with the second one, and counts the visits that have one row for both.
+fn compare(inputs: &Inputs, key_len: usize) -> usize {
+    let given = inputs.parameters(key_len);
+    let used = given.matrix_words() as usize;
+    let mut due_key = vec![0; key_len];
+    let mut due = vec![7; used + PAST];
+    let mut record = vec![0; given.record_words() as usize];
+    derive_recorded(inputs, &mut due_key, &mut due, &mut record).expect("no check refuses");
+    for (name, derive) in derivations() {
+        let mut key = vec![0xa5; key_len];
+        let mut matrix: Vec<u64> = (0..used as u64).map(|place| !place).collect();
+        matrix.resize(used + PAST, 7);
+        derive(inputs, &mut key, &mut matrix);
+        let asked = format!("{name}: {inputs:?}, key of {key_len} bytes");
+        assert_eq!(key, due_key, "the key of {asked}");
+        assert!(matrix == due, "the end matrix of {asked}");
+    }
+    let visits = record.chunks_exact(2 + 2 * inputs.c as usize);
+    visits.filter(|visit| visit[0] == visit[1]).count()
+}
+
+/// Bytes that differ from place to place.
+fn bytes(count: usize) -> Vec<u8> {
+    (0..count).map(|place| (place * 167 + 13) as u8).collect()
+}
+
+#[test]
+fn every_shape() {
+    let (password, salt) = (bytes(19), bytes(16));
+    let mut one_row = 0;
+    for t in 1..=3 {
+        for r in (3..=20).chain([33, 64, 65]) {
+            for c in (1..=9).chain([16, 63, 64]) {
+                let (password, salt) = (&password, &salt);
+                one_row += compare(
+                    &Inputs {
+                        password,
+                        salt,
+                        t,
+                        r,
+                        c,
+                    },
+                    32,
+                );
+            }
+        }
+    }
+    assert!(one_row > 1000, "visits with one row for both: {one_row}");
+}
+
+#[test]
+fn every_number_of_columns() {
+    let (password, salt) = (bytes(8), bytes(8));
+    for c in 1..=256 {
+        let (password, salt) = (&password, &salt);
+        compare(
+            &Inputs {
+                password,
+                salt,
+                t: 1,
+                r: 7,
+                c,
+            },
+            32,
+        );
+    }
+}
+
+#[test]
+fn lengths_around_blocks_and_pieces() {
+    for password_len in (0..=130).chain([1023, 1024]) {
+        for salt_len in [8, 16, 63, 64] {
+            let (password, salt) = (bytes(password_len), bytes(salt_len));
+            let inputs = Inputs {
+                password: &password,
+                salt: &salt,
+                t: 1,
+                r: 4,
+                c: 3,
+            };
+            compare(&inputs, 64);
+        }
+    }
+    let (password, salt) = (bytes(40), bytes(12));
+    for key_len in (1..=200).chain([287, 288, 289, 1023, 1024]) {
+        let inputs = Inputs {
+            password: &password,
+            salt: &salt,
+            t: 2,
+            r: 5,
+            c: 4,
+        };
+        compare(&inputs, key_len);
+    }
+}
+
+/// As much memory as Argon2id needs at least, and a little more.
+const SMALL: Inputs = Inputs {
+    password: b"password",
+    salt: b"saltsalt",
+    t: 1,
+    r: 32,
+    c: 4,
+};
+
+#[test]
+fn every_measured_program_leaves_what_is_due() {
+    let (all, _) = programs::all();
+    let all: Vec<&Program> = all.iter().collect();
+    let times = measure(&SMALL, &all, 3);
+    assert_eq!(times.len(), all.len());
+    assert!(times.iter().all(|times| times.minimum() <= times.median()));
+}
+
+/// A program that derives rightly and then changes something has to end the measurement.
+fn measure_spoilt(spoil: fn(&mut Lent)) {
+    let derive = move |inputs: &Inputs, lent: &mut Lent| {
+        let mut key = [0; 32];
+        speed::derive(inputs, &mut key, lent.matrix());
+        lent.key = key;
+        spoil(lent);
+    };
+    let name = "spoilt";
+    let derive = Box::new(derive);
+    let program = Program {
+        name,
+        lyra2: true,
+        drawn: false,
+        derive,
+    };
+    measure(&SMALL, &[&program], 1);
+}
+
+#[test]
+fn a_right_program_is_measured() {
+    measure_spoilt(|_| ());
+}
+
+#[test]
+#[should_panic(expected = "the key of spoilt")]
+fn a_wrong_key_ends_the_measurement() {
+    measure_spoilt(|lent| lent.key[31] ^= 1);
+}
+
+#[test]
+#[should_panic(expected = "the end matrix of spoilt")]
+fn a_wrong_matrix_ends_the_measurement() {
+    measure_spoilt(|lent| lent.matrix()[12 * 32 * 4 - 1] ^= 1);
+}

@@ -1,0 +1,180 @@
+//! What the benchmark writes: the picture is well-formed and inside its frame, and dates are right.
+
+use bench::machine::day;
+use bench::plot::{svg, Line, Plot};
+
+fn plot(names: &[&str]) -> Plot {
+    let line = |(place, name): (usize, &&str)| Line {
+        name: name.to_string(),
+        points: (0..8)
+            .map(|n| {
+                (
+                    0.1 * 2.7f64.powi(n),
+                    (place + 1) as f64 * 3.1f64.powi(n - 4),
+                )
+            })
+            .collect(),
+    };
+    Plot {
+        title: "a < b & \"c\" > d".to_string(),
+        x_label: "x & y".to_string(),
+        y_label: "<y>".to_string(),
+        lines: names.iter().enumerate().map(line).collect(),
+    }
+}
+
+/// The name and the attributes of a tag, each attribute with its quoted value.
+fn parse_tag(tag: &str) -> (&str, Vec<(&str, &str)>) {
+    let (name, mut rest) = tag.split_once(' ').unwrap_or((tag, ""));
+    let mut attributes = Vec::new();
+    while !rest.trim().is_empty() {
+        let (key, after) = rest
+            .trim_start()
+            .split_once("=\"")
+            .expect("a value in quotes");
+        let (value, after) = after.split_once('"').expect("the closing quote");
+        assert!(
+            !key.is_empty() && key.chars().all(|c| c.is_alphanumeric() || c == '-'),
+            "{key}"
+        );
+        assert!(
+            attributes.iter().all(|&(other, _)| other != key),
+            "{key} stands twice"
+        );
+        attributes.push((key, value));
+        rest = after;
+    }
+    (name, attributes)
+}
+
+/// Text and attribute values may hold a mark of XML only in its escaped form.
+fn assert_escaped(text: &str) {
+    assert!(!text.contains(['<', '>']), "{text}");
+    for after in text.split('&').skip(1) {
+        assert!(
+            ["amp;", "lt;", "gt;"]
+                .iter()
+                .any(|mark| after.starts_with(mark)),
+            "{text}"
+        );
+    }
+}
+
+/// Reads a picture as XML without declarations; returns every tag with its attributes.
+fn parse(picture: &str) -> Vec<(&str, Vec<(&str, &str)>)> {
+    let (mut open, mut tags) = (Vec::new(), Vec::new());
+    let mut rest = picture.trim_end();
+    while !rest.is_empty() {
+        let (text, after) = rest.split_once('<').expect("the picture ends with a tag");
+        assert_escaped(text);
+        let (tag, after) = after.split_once('>').expect("the tag is closed");
+        rest = after;
+        if let Some(name) = tag.strip_prefix('/') {
+            assert_eq!(open.pop(), Some(name), "closed in another order");
+            assert!(
+                !open.is_empty() || rest.is_empty(),
+                "something follows the root"
+            );
+            continue;
+        }
+        let (name, attributes) = parse_tag(tag.trim_end_matches('/'));
+        attributes
+            .iter()
+            .for_each(|(_, value)| assert_escaped(value));
+        if !tag.ends_with('/') {
+            open.push(name);
+        }
+        tags.push((name, attributes));
+    }
+    assert!(open.is_empty(), "left open: {open:?}");
+    tags
+}
+
+#[test]
+fn the_picture_is_well_formed() {
+    let picture = svg(&plot(&[
+        "one",
+        "two & three",
+        "<four>",
+        "five",
+        "six",
+        "seven",
+    ]));
+    let tags = parse(&picture);
+    assert_eq!(tags[0].0, "svg");
+    assert!(tags[0].1.contains(&("xmlns", "http://www.w3.org/2000/svg")));
+    let lines = tags.iter().filter(|(name, _)| *name == "polyline").count();
+    assert_eq!(lines, 6);
+    for words in [
+        "a &lt; b &amp; \"c\" &gt; d",
+        "two &amp; three",
+        "&lt;four&gt;",
+        "x &amp; y",
+    ] {
+        assert!(picture.contains(words), "{words}");
+    }
+}
+
+#[test]
+fn the_lines_rise_inside_the_frame() {
+    let picture = svg(&plot(&["one", "two"]));
+    for (name, attributes) in parse(&picture) {
+        let Some((_, points)) = attributes
+            .iter()
+            .find(|(key, _)| name == "polyline" && *key == "points")
+        else {
+            continue;
+        };
+        let places: Vec<(f64, f64)> = points
+            .split(' ')
+            .map(|point| {
+                let (x, y) = point.split_once(',').expect("two numbers");
+                (x.parse().expect("a number"), y.parse().expect("a number"))
+            })
+            .collect();
+        assert_eq!(places.len(), 8);
+        assert!(places
+            .iter()
+            .all(|(x, y)| (80.0..=830.0).contains(x) && (56.0..=530.0).contains(y)));
+        assert!(places
+            .windows(2)
+            .all(|pair| pair[0].0 < pair[1].0 && pair[0].1 > pair[1].1));
+    }
+}
+
+#[test]
+fn the_ticks_are_one_two_and_five() {
+    let points = vec![(0.09, 0.03), (96.0, 130.0)];
+    let line = Line {
+        name: "line".to_string(),
+        points,
+    };
+    let picture = svg(&Plot {
+        lines: vec![line],
+        ..plot(&[])
+    });
+    for tick in [
+        "0.05", "0.1", "0.2", "0.5", "1", "2", "5", "10", "20", "50", "100", "0.02", "200",
+    ] {
+        assert!(picture.contains(&format!(">{tick}</text>")), "{tick}");
+    }
+    for tick in [">0.01<", ">500<"] {
+        assert!(!picture.contains(tick), "{tick}");
+    }
+}
+
+#[test]
+fn days_are_dates() {
+    let known = [
+        (0, "1970-01-01"),
+        (58, "1970-02-28"),
+        (59, "1970-03-01"),
+        (11_322, "2000-12-31"),
+        (19_782, "2024-02-29"),
+        (20_772, "2026-11-15"),
+        (47_541, "2100-03-01"),
+    ];
+    for (days, date) in known {
+        assert_eq!(day(days), date);
+    }
+}
