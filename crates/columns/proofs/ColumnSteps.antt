@@ -19,7 +19,6 @@ use Rattle.matrix.proofs.CellLaws.{length-cell}
 use Rattle.matrix.proofs.Apart.{cell, row-before}
 use Rattle.columns.specs.Settings.{Settings, settings, profile, work}
 use Rattle.columns.specs.Bounds.{Earlier}
-use Rattle.columns.proofs.RowLaws.{row1-before}
 use Rattle.columns.specs.Columns.{fillColumn, copyColumn, setupCells, setupWritten, setupColumn, picks, visitCells, visitWritten, visitColumn}
 use Rattle.columns.specs.declared.Rows.{Rows}
 use Rattle.columns.specs.declared.Picks.{Picks}
@@ -77,7 +76,7 @@ module _ (A : Addition) (ρ ω n C : ℕ) where
       let of = made-before (r .row0 .0) col inside lt in
       keeps-then
       (keeps-duplex n A ρ
-      (made-sum (made-sum (of (r .row1 .0) (row1-before C r is)) (of (r .prev0 .0) (is .prev0))) (of (r .prev1 .0) (is .prev1))))
+      (made-sum (made-sum (of (r .row1 .0) (is .row1)) (of (r .prev0 .0) (is .prev0))) (of (r .prev1 .0) (is .prev1))))
       (keeps-then (keeps-fill-xored (r .row0 .0) col inside lt (r .prev0 .0) (is .prev0))
       (keeps-xor-rotated n (r .row1 .0 * C + col) ω))
 

@@ -6,7 +6,7 @@ use native.Mathlib.Nat.{suc-mul}
 use native.Mathlib.Numerals.{add-one}
 pub use Rattle.matrix.proofs.Apart.{row-before}
 use Rattle.columns.specs.declared.Rows.{Rows}
-use Rattle.columns.specs.Bounds.{Earlier, Within}
+use Rattle.columns.specs.Bounds.{Within}
 
 -- a whole row more
 pub row-more : (k C : ℕ) → (k + 1) * C ≡ k * C + C
@@ -20,7 +20,3 @@ module _ (R C n : ℕ) (room : 12 * (R * C) ≤ n) where
   pub within : (r : Rows) → r .row0 .0 < R → r .row1 .0 < R → r .prev0 .0 < R → r .prev1 .0 < R → Within C r n
   within r h0 h1 p0 p1 =
       record { row0 = row-within _ h0; row1 = row-within _ h1; prev0 = row-within _ p0; prev1 = row-within _ p1 }
-
--- the row that Setup revisits is before the one that it fills
-pub row1-before : (C : ℕ) (r : Rows) → Earlier C r → r .row1 .0 * C + C ≤ r .row0 .0 * C
-row1-before C r is = omega (arith, is .row1, is .prev0)

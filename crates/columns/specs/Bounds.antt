@@ -2,9 +2,9 @@
 use Prim.Native.Nat.{ℕ, _+_, _*_, _≤_}
 use Rattle.columns.specs.declared.Rows.{Rows}
 
--- the rows that Setup reads are before the one that it fills, and the one that it revisits is none after prev0
+-- the rows that Setup reads are before the one that it fills
 pub record Earlier (C : ℕ) (r : Rows) : Type 0 where
-  pub row1 : r .row1 .0 * C ≤ r .prev0 .0 * C
+  pub row1 : r .row1 .0 * C + C ≤ r .row0 .0 * C
   pub prev0 : r .prev0 .0 * C + C ≤ r .row0 .0 * C
   pub prev1 : r .prev1 .0 * C + C ≤ r .row0 .0 * C
 

@@ -3,13 +3,14 @@ use matrix::Column;
 use matrix::Row;
 use matrix::cell;
 use matrix::cell_start;
-use matrix::put_both;
-use matrix::put_output;
+use matrix::put_cell;
 use matrix::put_xored;
-use matrix::xor_both;
+use matrix::xor_cell;
+use matrix::xor_rotated;
 use sponge::duplex::duplex;
 use sponge::duplex::duplex_sum3;
 use sponge::duplex::duplex_sum4;
+use sponge::duplex::output;
 use sponge::duplex::reduced_call;
 ghost use mathlib.Core.Path.{_≡_};
 ghost use Prim.Native.Nat.{_+_, _*_, _%_, _≤_, _<_};
@@ -41,7 +42,8 @@ pub fn fill_column(s: &mut [u64; 16], m: &mut [u64], col: usize, columns: usize)
     ensures { λ _. ⌜ work (now (s .exit)) (now (m .exit)) ≡ fillColumn profile columns col (work (now (s .entry)) (now (m .entry))) ⌝ }
 {
     let a = cell_start(Row(0), Column(columns - 1 - col), columns);
-    put_output(m, a, s);
+    let rand = output(s);
+    put_cell(m, a, &rand);
     reduced_call(s);
 }
 
@@ -60,7 +62,8 @@ pub fn copy_column(
     duplex(s, cell(m, prev0, Column(col), columns));
     let a = cell_start(prev0, Column(col), columns);
     let b = cell_start(row0, Column(columns - 1 - col), columns);
-    put_xored(m, a, b, s);
+    let rand = output(s);
+    put_xored(m, a, b, &rand);
 }
 
 // What a column of a row from 3 on duplexes.
@@ -84,7 +87,9 @@ fn write_setup(m: &mut [u64], s: &[u64; 16], rows: Rows, col: usize, columns: us
     let a = cell_start(rows.prev0, Column(col), columns);
     let b = cell_start(rows.row0, Column(columns - 1 - col), columns);
     let d = cell_start(rows.row1, Column(col), columns);
-    put_both(m, a, b, d, s);
+    let rand = output(s);
+    put_xored(m, a, b, &rand);
+    xor_rotated(m, d, &rand);
 }
 
 // A column of a row from 3 on.
@@ -152,7 +157,9 @@ fn write_visit(m: &mut [u64], s: &[u64; 16], rows: Rows, col: usize, columns: us
 {
     let a = cell_start(rows.row0, Column(col), columns);
     let b = cell_start(rows.row1, Column(col), columns);
-    xor_both(m, a, b, s);
+    let rand = output(s);
+    xor_cell(m, a, &rand);
+    xor_rotated(m, b, &rand);
 }
 
 // A column of a visit with the columns that were picked for it; the answer is those for the next one.

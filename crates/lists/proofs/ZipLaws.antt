@@ -125,36 +125,6 @@ module _ (f : ℕ → ℕ → ℕ) where
   getD-before (suc a) (x ∷ xs) ys zero h = refl
   getD-before (suc a) (x ∷ xs) ys (suc i) h = getD-before a xs ys i (le-of-suc-le-suc h)
 
-  -- what stands after the last of them is kept, and can as well be stored before
-  getD-zip-after : (xs ys : List ℕ) (i : ℕ) → length ys ≤ i → getD (zipInto f xs ys) i 0 ≡ getD xs i 0
-  unfolding zipInto
-  getD-zip-after [] ys i h = refl
-  getD-zip-after (x ∷ xs) [] i h = refl
-  getD-zip-after (x ∷ xs) (y ∷ ys) zero h = absurd (not-suc-le-zero h)
-  getD-zip-after (x ∷ xs) (y ∷ ys) (suc i) h = getD-zip-after xs ys i (le-of-suc-le-suc h)
-
-  pub getD-after : (a : ℕ) (xs ys : List ℕ) (i : ℕ) → a + length ys ≤ i → getD (zipAt f a xs ys) i 0 ≡ getD xs i 0
-  unfolding zipAt zipInto
-  getD-after zero xs ys i h = getD-zip-after xs ys i (omega arith)
-  getD-after (suc a) [] ys i h = refl
-  getD-after (suc a) (x ∷ xs) ys zero h = absurd (omega arith)
-  getD-after (suc a) (x ∷ xs) ys (suc i) h = getD-after a xs ys i (omega arith)
-
-  set-zip-after : (xs ys : List ℕ) (i v : ℕ) → length ys ≤ i → set (zipInto f xs ys) i v ≡ zipInto f (set xs i v) ys
-  unfolding zipInto
-  set-zip-after [] ys i v h = refl
-  set-zip-after (x ∷ xs) [] zero v h = refl
-  set-zip-after (x ∷ xs) [] (suc i) v h = refl
-  set-zip-after (x ∷ xs) (y ∷ ys) zero v h = absurd (not-suc-le-zero h)
-  set-zip-after (x ∷ xs) (y ∷ ys) (suc i) v h = ap (λ (l : List ℕ). f x y ∷ l) (set-zip-after xs ys i v (le-of-suc-le-suc h))
-
-  pub set-after : (a : ℕ) (xs ys : List ℕ) (i v : ℕ) → a + length ys ≤ i → set (zipAt f a xs ys) i v ≡ zipAt f a (set xs i v) ys
-  unfolding zipAt zipInto
-  set-after zero xs ys i v h = set-zip-after xs ys i v (omega arith)
-  set-after (suc a) [] ys i v h = refl
-  set-after (suc a) (x ∷ xs) ys zero v h = absurd (omega arith)
-  set-after (suc a) (x ∷ xs) ys (suc i) v h = ap (λ (l : List ℕ). x ∷ l) (set-after a xs ys i v (omega arith))
-
   zipAt-more : (a : ℕ) (xs ys : List ℕ) (j : ℕ) → j < length ys
       → set (zipAt f a xs (take j ys)) (a + j) (f (getD (zipAt f a xs (take j ys)) (a + j) 0) (getD ys j 0)) ≡ zipAt f a xs (take (suc j) ys)
   unfolding zipAt zipInto
@@ -170,43 +140,6 @@ module _ (f : ℕ → ℕ → ℕ) where
 
     pub zipAt-end : n ≤ j → s ≡ zipAt f a xs ys
     zipAt-end h = inv ∙ ap (zipAt f a xs) (take-all j ys (omega arith))
-
-  -- where the order of two second operands does not matter, neither does the order of a step at one place and steps from a place on
-  module _ (swap : (x y z : ℕ) → f (f x y) z ≡ f (f x z) y) where
-    zip-past : (xs ys : List ℕ) (i v : ℕ)
-        → set (zipInto f xs ys) i (f (getD (zipInto f xs ys) i 0) v) ≡ zipInto f (set xs i (f (getD xs i 0) v)) ys
-    unfolding zipInto
-    zip-past [] ys i v = refl
-    zip-past (x ∷ xs) [] zero v = refl
-    zip-past (x ∷ xs) [] (suc i) v = refl
-    zip-past (x ∷ xs) (y ∷ ys) zero v = ap (λ (h : ℕ). h ∷ zipInto f xs ys) (swap x y v)
-    zip-past (x ∷ xs) (y ∷ ys) (suc i) v = ap (λ (l : List ℕ). f x y ∷ l) (zip-past xs ys i v)
-
-    zipAt-past : (a : ℕ) (xs ys : List ℕ) (i v : ℕ)
-        → set (zipAt f a xs ys) i (f (getD (zipAt f a xs ys) i 0) v) ≡ zipAt f a (set xs i (f (getD xs i 0) v)) ys
-    unfolding zipAt zipInto
-    zipAt-past zero xs ys i v = zip-past xs ys i v
-    zipAt-past (suc a) [] ys i v = refl
-    zipAt-past (suc a) (x ∷ xs) ys zero v = refl
-    zipAt-past (suc a) (x ∷ xs) ys (suc i) v = ap (λ (l : List ℕ). x ∷ l) (zipAt-past a xs ys i v)
-
-    -- one place more from place a on and from place b on, one after the other
-    module _ (a b : ℕ) (xs ys zs s : List ℕ) (j n : ℕ) (ly : length ys ≡ n) (lz : length zs ≡ n)
-        (inv : s ≡ zipAt f b (zipAt f a xs (take j ys)) (take j zs)) where
-      first-again : (v : ℕ) → j < n → v ≡ getD ys j 0
-          → set s (a + j) (f (getD s (a + j) 0) v) ≡ zipAt f b (zipAt f a xs (take (suc j) ys)) (take j zs)
-      first-again v h e =
-          ap (λ (t : List ℕ). set t (a + j) (f (getD t (a + j) 0) v)) inv
-          ∙ zipAt-past b (zipAt f a xs (take j ys)) (take j zs) (a + j) v
-          ∙ ap (λ (t : List ℕ). zipAt f b t (take j zs)) (zipAt-again a xs ys (zipAt f a xs (take j ys)) j n ly refl v h e)
-
-      pub both-again : (v w : ℕ) (t : List ℕ) → j < n → v ≡ getD ys j 0 → w ≡ getD zs j 0 → t ≡ set s (a + j) (f (getD s (a + j) 0) v)
-          → set t (b + j) (f (getD t (b + j) 0) w) ≡ zipAt f b (zipAt f a xs (take (suc j) ys)) (take (suc j) zs)
-      both-again v w t h ev ew et = zipAt-again b (zipAt f a xs (take (suc j) ys)) zs t j n lz (et ∙ first-again v h ev) w h ew
-
-      pub both-end : n ≤ j → s ≡ zipAt f b (zipAt f a xs ys) zs
-      both-end h =
-          inv ∙ ap₂ (λ (l m : List ℕ). zipAt f b (zipAt f a xs l) m) (take-all j ys (omega arith)) (take-all j zs (omega arith))
 
 pub tabulate-words : (n : ℕ) (f : ℕ → ℕ) → ((i : ℕ) → f i < 2 ^ 64) → AllWords (tabulate n f)
 unfolding tabulate

@@ -2,7 +2,7 @@
 use mathlib.Core.Path.{_≡_, sym, ap, subst, _∙_}
 use Prim.Native.Nat.{ℕ, _+_, _*_, _-_, _≤_}
 use native.Mathlib.Omega.{arith}
-use native.Mathlib.Nat.{add-mul, mul-le-mul-right}
+use native.Mathlib.Nat.{add-mul}
 use Rattle.columns.specs.Bounds.{Earlier}
 pub use Rattle.columns.proofs.RowLaws.{row-before}
 use Rattle.setup_order.proofs.Windows.{row1-lt, prev1-lt}
@@ -21,7 +21,7 @@ pub earlier : (k C : ℕ) (o : Order) → o ≡ order k → Earlier C (rowsWith 
 earlier k C o e =
     subst (λ (p : Order). Earlier C (rowsWith k p)) (sym e)
     (record {
-      row1 = mul-le-mul-right C (omega (arith, row1-lt k));
+      row1 = row-before _ (3 + k) C (row1-lt k);
       prev0 = row-before (2 + k) (3 + k) C (omega arith);
       prev1 = row-before _ (3 + k) C (prev1-lt k);
     })

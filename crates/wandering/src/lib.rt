@@ -24,13 +24,15 @@ fn note(record: &mut [u64], at: usize, value: usize)
     }
 }
 
-// Stores two numbers, one after the other.
+// Stores two numbers, one after the other. Where the first has no room the second has none either.
 fn note_pair(record: &mut [u64], at: usize, first: usize, second: usize)
     requires { ⌜ at + 1 < 2 ^ 64 ⌝ }
     ensures { λ _. ⌜ now («record» .exit) ≡ set (set (now («record» .entry)) at first) (at + 1) second ⌝ }
 {
-    note(record, at, first);
-    note(record, at + 1, second);
+    if at < record.len() {
+        record[at] = first as u64;
+        note(record, at + 1, second);
+    }
 }
 
 // A visit's columns; the record gets their picks from place `at` on. The answer counts the reduced calls.

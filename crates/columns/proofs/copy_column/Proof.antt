@@ -9,6 +9,7 @@ use Rattle.matrix.proofs.cell.Reads as cell-reads
 use Rattle.matrix.proofs.cell_start.Reads as cell-start-reads
 use Rattle.matrix.proofs.put_xored.Reads as put-xored-reads
 use Rattle.sponge.proofs.duplex.duplex.Reads as duplex-reads
+use Rattle.sponge.proofs.duplex.output.Reads as output-reads
 
 cell-requires : tie.Need-cell-requires
 cell-requires c κs = search needs
@@ -19,14 +20,20 @@ duplex-requires c κs = search needs
 cell-start-requires : tie.Need-cell-start-requires
 cell-start-requires c κs = search needs
 
-sub-t15 : tie.Need-sub-t15
-sub-t15 c = search needs
-
 sub-t16 : tie.Need-sub-t16
 sub-t16 c = search needs
 
+sub-t17 : tie.Need-sub-t17
+sub-t17 c = search needs
+
 cell-start-requires-2 : tie.Need-cell-start-requires-2
 cell-start-requires-2 c κs = search needs
+
+output-requires : tie.Need-output-requires
+output-requires c κs = search needs
+
+slice-aggregate-put-xored : tie.Need-slice-aggregate-put-xored
+slice-aggregate-put-xored c = search needs
 
 put-xored-requires : tie.Need-put-xored-requires
 put-xored-requires c κs = search needs
@@ -45,9 +52,11 @@ copy-column-spec =
     cell-requires
     duplex-requires
     cell-start-requires
-    sub-t15
     sub-t16
+    sub-t17
     cell-start-requires-2
+    output-requires
+    slice-aggregate-put-xored
     put-xored-requires
     same-length
     returns)

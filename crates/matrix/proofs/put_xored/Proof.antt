@@ -8,7 +8,6 @@ use lib.Bits.{bitXor}
 use denote.Ref.{now}
 use Rattle.lists.specs.Zip.{zipAt, xorInto}
 use Rattle.lists.proofs.ZipLaws.{zipAt-none, zipAt-again, zipAt-end, length-zip}
-use Rattle.sponge.specs.Sponge.{rand}
 use Rattle.matrix.specs.Cells.{cellFrom}
 use Rattle.matrix.proofs.CellLaws.{length-cell, xored-word}
 use Rattle.matrix.proofs.put_xored.Statement.{statement}
@@ -17,10 +16,10 @@ use Rattle.matrix.proofs.put_xored.Reads as reads
 use Rattle.matrix.proofs.put_xored.Lts as lts
 
 abbrev Inv-loop : tie.InvT-loop
-Inv-loop m₀ a b s j₀ m j = (j ≤ 12) × (length m ≡ length m₀) × (m ≡ zipAt (λ (x y : ℕ). y) b m₀ (take j (xorInto (cellFrom a m₀) (rand s))))
+Inv-loop m₀ a b words j₀ m j = (j ≤ 12) × (length m ≡ length m₀) × (m ≡ zipAt (λ (x y : ℕ). y) b m₀ (take j (xorInto (cellFrom a m₀) words)))
 
 abbrev μ-loop : tie.MeasureT-loop
-μ-loop m₀ a b s j₀ m j = 12 - j
+μ-loop m₀ a b words j₀ m j = 12 - j
 
 loop-holds : tie.Need-loop-holds Inv-loop μ-loop
 loop-holds c = (omega arith, refl, sym (zipAt-none (λ (x y : ℕ). y) _ _))
@@ -37,8 +36,8 @@ slice-read-m c = omega arith
 mul-m-2 : tie.Need-mul-m-2 Inv-loop μ-loop
 mul-m-2 c = omega arith
 
-element-copy-out-m : tie.Need-element-copy-out-m Inv-loop μ-loop
-element-copy-out-m c = omega arith
+shared-slice-read-m : tie.Need-shared-slice-read-m Inv-loop μ-loop
+shared-slice-read-m c = omega arith
 
 add-m-2 : tie.Need-add-m-2 Inv-loop μ-loop
 add-m-2 c = omega arith
@@ -61,9 +60,7 @@ loop-again c =
     let start = head .before in (
       omega arith,
       simp length-set (head .loop .inv .1),
-      rw add-one
-          (zipAt-again (λ (x y : ℕ). y) _ _ _ _ _ 12 (length-zip bitXor _ _ ∙ length-cell (start .args .a) (now (start .args .m)) (omega arith)) (head .loop .inv .2) _ (omega arith)
-          (xored-word (start .args .a) (start .args .b) (now (start .args .m)) (head .loop .m) (now (start .args .s)) _ (omega arith) (omega arith) (head .loop .inv .2) (head .loop .j) (omega arith))),
+      rw add-one (zipAt-again (λ (x y : ℕ). y) _ _ _ _ _ 12 (length-zip bitXor _ _ ∙ length-cell (start .args .a) (now (start .args .m)) (omega arith)) (head .loop .inv .2) _ (omega arith) (xored-word (start .args .a) (start .args .b) (now (start .args .m)) (head .loop .m) (now (start .args .words)) _ (omega arith) (omega arith) (start .pre .2) (head .loop .inv .2) (head .loop .j) (omega arith))),
     )
 
 same-length : tie.Need-same-length Inv-loop μ-loop
@@ -85,7 +82,7 @@ put-xored-spec =
     mul-m
     slice-read-m
     mul-m-2
-    element-copy-out-m
+    shared-slice-read-m
     add-m-2
     mul-m-3
     slice-write-m
