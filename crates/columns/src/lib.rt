@@ -13,8 +13,9 @@ use sponge::duplex::duplex_sum4;
 use sponge::duplex::output;
 use sponge::duplex::reduced_call;
 ghost use mathlib.Core.Path.{_≡_};
-ghost use Prim.Native.Nat.{_+_, _*_, _%_, _≤_, _<_};
+ghost use Prim.Native.Nat.{_+_, _-_, _*_, _%_, _≤_, _<_};
 ghost use lib.ListN.{length};
+ghost use lib.Bits.{bitAnd};
 ghost use Rattle.permutation.specs.Word.{plainSum};
 ghost use Rattle.sponge.specs.Profile.{reducedRounds};
 ghost use Rattle.sponge.specs.Sponge.{absorb};
@@ -110,18 +111,26 @@ pub fn picked(word: u64, n: usize) -> usize
     (word % (n as u64)) as usize
 }
 
-// The same for columns, whose number is mostly a power of two: a remainder by a constant one is no division.
+// The low bits of a word, below those of n - 1.
+fn masked(word: u64, n: usize) -> usize
+    requires { ⌜ 0 < n ⌝ }
+    ensures { λ r. ⌜ r ≡ bitAnd word (n - 1) ⌝ }
+{
+    (word & (n as u64 - 1)) as usize
+}
+
+// The same as `picked` for columns, whose number is mostly a power of two: the low bits are then the remainder.
 fn picked_column(word: u64, n: usize) -> usize
     requires { ⌜ 0 < n ⌝ }
     ensures { λ r. ⌜ r ≡ word % n ⌝ }
     ensures { λ r. ⌜ r < n ⌝ }
 {
     match n {
-        16 => (word % 16) as usize,
-        32 => (word % 32) as usize,
-        64 => (word % 64) as usize,
-        128 => (word % 128) as usize,
-        256 => (word % 256) as usize,
+        16 => masked(word, n),
+        32 => masked(word, n),
+        64 => masked(word, n),
+        128 => masked(word, n),
+        256 => masked(word, n),
         _ => picked(word, n),
     }
 }
