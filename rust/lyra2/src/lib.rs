@@ -23,7 +23,7 @@
 //! ```
 //!
 //! After a derivation or a check the matrix holds what was made from the password: overwrite it before lending
-//! it to anything else. The stack below the call may still hold the last input block and the state.
+//! it to anything else. The stack below the call may still hold the state, whose words are the key.
 //!
 //! # A check
 //!
