@@ -1,11 +1,7 @@
 -- The numbers of a derivation within the limits, and the sum of its reduced calls. Assumes nothing.
 use mathlib.Core.Path.{_≡_, sym, ap, _∙_}
 use Prim.Native.Nat.{ℕ, _+_, _*_, _≤_}
-use native.Mathlib.Omega.{arith}
-use native.Mathlib.Nat.{le-trans, mul-le-mul, mul-add, mul-one, mul-right-comm, add-comm}
-
-pub visits-most : (R T : ℕ) → R ≤ 16384 → T ≤ 255 → R * T ≤ 4177920
-visits-most R T hR hT = le-trans (mul-le-mul hR hT) (omega arith)
+use native.Mathlib.Nat.{mul-le-mul, mul-add, mul-one, mul-right-comm, add-comm}
 
 pub product-most : (n x a b : ℕ) → n ≤ a → x ≤ b → n * x ≤ a * b
 product-most n x a b hn hx = mul-le-mul hn hx

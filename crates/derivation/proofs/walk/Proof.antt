@@ -9,7 +9,8 @@ use Rattle.columns.specs.Settings.{profile}
 use Rattle.setup_order.proofs.Windows.{prev1-lt}
 use Rattle.wandering.specs.Visits.{Visit}
 use Rattle.wandering.specs.Encoding.{encode}
-use Rattle.derivation.proofs.Sizes.{visits-most, product-most, calls-sum}
+use Rattle.refusals.proofs.Accepted.{visits-most}
+use Rattle.derivation.proofs.Sizes.{product-most, calls-sum}
 use Rattle.derivation.proofs.Ends.{walk-end, walk-visits}
 use borrow.Author.Needs.{needs}
 use Rattle.derivation.proofs.walk.Statement.{statement}
@@ -29,14 +30,14 @@ mul-wander : tie.Need-mul-wander
 mul-wander c =
     let start = c .before .before .before .before .before .before .before .before .before in
     let a = start .args in
-    omega (arith, visits-most (a .rows) (a .time) (start .pre .1) (start .pre .3))
+    omega (arith, visits-most (a .time) (a .rows) (start .pre .3) (start .pre .1))
 
 wander-requires : tie.Need-wander-requires
 wander-requires c κs =
     let start = c .before .before .before .before .before .before .before .before .before .before in
     let a = start .args in
     let up = c .before .before .before .before .before .set-up in
-    let n = visits-most (a .rows) (a .time) (start .pre .1) (start .pre .3) in (
+    let n = visits-most (a .time) (a .rows) (start .pre .3) (start .pre .1) in (
       omega arith,
       omega arith,
       omega (arith, up .ensures .0, prev1-lt (a .rows - 3)),
@@ -51,7 +52,7 @@ add-t23 c =
     let a = start .args in
     let up = c .before .before .before .before .before .before .before .before .before .before .before .before .before .before .set-up in
     let v = c .before .before .before .before .before .before .before .before .wander in
-    let n = visits-most (a .rows) (a .time) (start .pre .1) (start .pre .3) in
+    let n = visits-most (a .time) (a .rows) (start .pre .3) (start .pre .1) in
     omega
     (arith, up .ensures .1, v .ensures .0, product-most (a .rows) (a .columns) 16384 256 (start .pre .1) (start .pre .2), product-most (a .rows * a .time) (a .columns) 4177920 256 n (start .pre .2))
 
