@@ -11,7 +11,7 @@ ghost use lib.ListN.{length};
 ghost use Rattle.columns.specs.Bounds.{Earlier};
 ghost use Rattle.columns.specs.Settings.{profile, work};
 ghost use Rattle.setup_order.specs.SetupOrder.{order};
-ghost use Rattle.setup.specs.Setup.{fillRow, copyRow, setupRow, setupRows, firstRows, setup};
+ghost use Rattle.setup.specs.Setup.{fillRow, copyRow, setupRow, setupStep, setupRows, firstRows, setup};
 
 // Row 0. Each row function answers how many reduced calls it made.
 fn fill_row(s: &mut [u64; 16], m: &mut [u64], columns: usize) -> u64
@@ -48,16 +48,13 @@ fn setup_row(s: &mut [u64; 16], m: &mut [u64], rows: Rows, columns: usize) -> u6
     requires { ⌜ (12 * (rows .row0 .0 * columns + columns) ≤ length (now m)) × Earlier columns rows ⌝ }
     ensures { λ r. ⌜ (r ≡ columns) × (work (now (s .exit)) (now (m .exit)) ≡ setupRow profile columns rows (work (now (s .entry)) (now (m .entry)))) ⌝ }
 {
-    // The state as a local is kept in registers from column to column.
-    let mut state = *s;
     let mut calls: u64 = 0;
     let mut col = 0;
     while col < columns {
-        setup_column(&mut state, m, rows, col, columns);
+        setup_column(s, m, rows, col, columns);
         calls += 1;
         col += 1;
     }
-    *s = state;
     calls
 }
 
@@ -67,22 +64,38 @@ pub struct SetUp {
     pub calls: u64,
 }
 
-// The rows from 3 on, of which there are n.
+// Row 3 + k, with its place in the order.
+fn setup_step(s: &mut [u64; 16], m: &mut [u64], k: usize, o: Order, columns: usize) -> u64
+    requires { ⌜ (o ≡ order k) × (3 + k ≤ 2 ^ 32) × (12 * ((3 + k) * columns + columns) ≤ length (now m)) ⌝ }
+    ensures { λ r. ⌜ (r ≡ columns) × (work (now (s .exit)) (now (m .exit)) ≡ setupStep profile columns k (work (now (s .entry)) (now (m .entry)))) ⌝ }
+{
+    let rows = Rows {
+        row0: Row(3 + k),
+        row1: Row(o.row1),
+        prev0: Row(2 + k),
+        prev1: Row(o.prev1),
+    };
+    setup_row(s, m, rows, columns)
+}
+
+// The rows from 3 on, of which there are n. Row 3 is called for by itself: the compiler then leaves a row a function of its
+// own, and the round a function below it, which is faster than all of them in one.
 fn setup_rows(s: &mut [u64; 16], m: &mut [u64], n: usize, columns: usize) -> SetUp
     requires { ⌜ (3 + n ≤ 2 ^ 32) × (12 * ((3 + n) * columns) ≤ length (now m)) ⌝ }
     ensures { λ r. ⌜ (r .prev1 ≡ order n .prev1) × (r .calls ≡ n * columns) × (work (now (s .exit)) (now (m .exit)) ≡ setupRows profile columns n (work (now (s .entry)) (now (m .entry)))) ⌝ }
 {
-    let mut o = Order::first();
-    let mut calls: u64 = 0;
-    let mut k = 0;
-    while k < n {
-        let rows = Rows {
-            row0: Row(3 + k),
-            row1: Row(o.row1),
-            prev0: Row(2 + k),
-            prev1: Row(o.prev1),
+    let first = Order::first();
+    if n == 0 {
+        return SetUp {
+            prev1: first.prev1,
+            calls: 0,
         };
-        calls += setup_row(s, m, rows, columns);
+    }
+    let mut calls = setup_step(s, m, 0, first, columns);
+    let mut o = first.next();
+    let mut k = 1;
+    while k < n {
+        calls += setup_step(s, m, k, o, columns);
         o = o.next();
         k += 1;
     }

@@ -47,18 +47,15 @@ fn visit_row(
     requires { ⌜ (0 < columns) × Within columns rows (length (now m)) × (at + 2 * columns < 2 ^ 64) ⌝ }
     ensures { λ r. ⌜ (r ≡ columns) × (work (now (s .exit)) (now (m .exit)) ≡ visitColumns profile columns rows columns (work (now (s .entry)) (now (m .entry)))) × (now («record» .exit) ≡ zipAt (λ x y. y) at (now («record» .entry)) (encodePicks (columnPicks profile columns rows columns (work (now (s .entry)) (now (m .entry)))))) ⌝ }
 {
-    // The state as a local is kept in registers from column to column.
-    let mut state = *s;
-    let mut p = pick_columns(&state, columns);
+    let mut p = pick_columns(s, columns);
     let mut calls: u64 = 0;
     let mut col = 0;
     while col < columns {
         note_pair(record, at + 2 * col, p.col0.0, p.col1.0);
-        p = visit_column(&mut state, m, rows, col, p, columns);
+        p = visit_column(s, m, rows, col, p, columns);
         calls += 1;
         col += 1;
     }
-    *s = state;
     calls
 }
 
@@ -106,7 +103,8 @@ fn visit(
     Visited { row0, row1, calls }
 }
 
-// n visits, after a first one that has the given rows for its previous ones. The record gets them from its start on.
+// n visits, of which the first has the given rows for its previous ones. The record gets them from its start on. The first is
+// called for by itself for the same reason as Setup's first step.
 pub fn wander(
     s: &mut [u64; 16],
     m: &mut [u64],
@@ -120,11 +118,19 @@ pub fn wander(
     requires { ⌜ (0 < columns) × (prev0 .0 < rows) × (prev1 .0 < rows) × (12 * (rows * columns) ≤ length (now m)) × (n * (2 + 2 * columns) < 2 ^ 63) × (n * columns < 2 ^ 63) ⌝ }
     ensures { λ r. ⌜ (r .calls ≡ n * columns) × (r .row0 .0 < rows) × (walk (work (now (s .exit)) (now (m .exit))) (r .row0 .0) (r .row1 .0) ≡ wander profile rows columns n (walk (work (now (s .entry)) (now (m .entry))) (prev0 .0) (prev1 .0))) × (now («record» .exit) ≡ putInto (now («record» .entry)) (encode (visits profile rows columns n (walk (work (now (s .entry)) (now (m .entry))) (prev0 .0) (prev1 .0))))) ⌝ }
 {
-    let mut row0 = prev0.0;
-    let mut row1 = prev1.0;
-    let mut calls: u64 = 0;
-    let mut at = 0;
-    let mut k = 0;
+    if n == 0 {
+        return Visited {
+            row0: prev0,
+            row1: prev1,
+            calls: 0,
+        };
+    }
+    let first = visit(s, m, prev0, prev1, rows, columns, record, 0);
+    let mut row0 = first.row0.0;
+    let mut row1 = first.row1.0;
+    let mut calls = first.calls;
+    let mut at = 2 + 2 * columns;
+    let mut k = 1;
     while k < n {
         let v = visit(s, m, Row(row0), Row(row1), rows, columns, record, at);
         row0 = v.row0.0;

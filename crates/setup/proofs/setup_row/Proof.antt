@@ -16,10 +16,10 @@ use Rattle.setup.proofs.setup_row.Lts as lts
 use Rattle.columns.proofs.setup_column.Reads as setup-column-reads
 
 abbrev Inv-loop : tie.InvT-loop
-Inv-loop s m₀ rows columns state₀ calls₀ col₀ m state calls col = (col ≤ columns) × (calls ≡ col) × (length m ≡ length m₀) × (work state m ≡ loop (setupColumn profile columns rows) col (work s m₀))
+Inv-loop s₀ m₀ rows columns calls₀ col₀ s m calls col = (col ≤ columns) × (calls ≡ col) × (length m ≡ length m₀) × (work s m ≡ loop (setupColumn profile columns rows) col (work s₀ m₀))
 
 abbrev μ-loop : tie.MeasureT-loop
-μ-loop s m₀ rows columns state₀ calls₀ col₀ m state calls col = columns - col
+μ-loop s₀ m₀ rows columns calls₀ col₀ s m calls col = columns - col
 
 loop-holds : tie.Need-loop-holds Inv-loop μ-loop
 loop-holds c = (omega arith, refl, refl, loop-none _ _)

@@ -1,63 +1,82 @@
--- `setup_rows` meets its contract. The loop's invariant: the work is that of the first k rows from row 3 on, and the order that of row 3 + k. Assumes nothing.
+-- `setup_rows` meets its contract. The loop's invariant: where the work before it is that of row 3, the work is that of k rows from row 3 on, and
+-- the order is that of row 3 + k. Assumes nothing.
 use mathlib.Core.Path.{_≡_, refl, sym, ap, _∙_, subst}
 use Prim.Native.Nat.{ℕ, _≤_, _-_, _+_, _*_}
 use native.Mathlib.Omega.{arith}
 use native.Mathlib.Nat.{zero-mul}
 use native.Mathlib.Numerals.{add-one}
 use lib.ListN.{length}
+use denote.Ref.{now}
 use Rattle.lists.specs.Loop.{loop}
 use Rattle.lists.proofs.LoopLaws.{loop-none, loop-more, loop-end}
-use Rattle.columns.specs.Settings.{profile, work}
+use Rattle.columns.specs.Settings.{profile, Work, work}
 use Rattle.setup_order.specs.SetupOrder.{order, nextOrder, Fits}
 use Rattle.setup_order.specs.declared.Order.{Order}
 use Rattle.setup_order.proofs.Windows.{order-fits}
-use Rattle.setup.specs.Setup.{rowsWith, setupRow, setupStep, setupRows}
+use Rattle.setup.specs.Setup.{setupStep, setupRows}
 use Rattle.columns.proofs.RowLaws.{row-more, row-before}
-use Rattle.setup.proofs.RowBounds.{earlier}
 use Rattle.setup.proofs.setup_rows.Statement.{statement}
 use Rattle.setup.proofs.setup_rows.Tie as tie
 use Rattle.setup.proofs.setup_rows.Reads as reads
 use Rattle.setup.proofs.setup_rows.Lts as lts
-use Rattle.setup.proofs.setup_row.Reads as setup-row-reads
+use Rattle.setup.proofs.setup_step.Reads as setup-step-reads
 use Rattle.setup_order.proofs.Order.first.Reads as first-reads
 use Rattle.setup_order.proofs.Order.next.Reads as next-reads
 
 abbrev Inv-loop : tie.InvT-loop
-Inv-loop s₀ m₀ n columns o₀ calls₀ k₀ s m o calls k = (k ≤ n) × (o ≡ order k) × (calls ≡ k * columns) × (length m ≡ length m₀) × (work s m ≡ loop (setupStep profile columns) k (work s₀ m₀))
+Inv-loop s₀ m₀ n columns calls₀ o₀ k₀ s m calls o k = (k ≤ n) × (o ≡ order k) × (calls ≡ k * columns) × (length m ≡ length m₀) × ((w : Work) → work s₀ m₀ ≡ loop (setupStep profile columns) 1 w → work s m ≡ loop (setupStep profile columns) k w)
 
 abbrev μ-loop : tie.MeasureT-loop
-μ-loop s₀ m₀ n columns o₀ calls₀ k₀ s m o calls k = n - k
+μ-loop s₀ m₀ n columns calls₀ o₀ k₀ s m calls o k = n - k
 
 first-requires : tie.Need-first-requires Inv-loop μ-loop
 first-requires c κs = tt
 
+returns : tie.Need-returns Inv-loop μ-loop
+unfolding order setupRows
+returns c =
+    let a = c .before .before .before .args in
+    let none = c .if1 .taken in (
+      ap (λ (o : Order). o .prev1) (c .before .first .ensures) ∙ ap (λ (k : ℕ). order k .prev1) (sym none),
+      sym (ap (λ (k : ℕ). k * a .columns) none ∙ zero-mul _),
+      loop-end _ _ _ _ _ (loop-none _ _) (sym none),
+    )
+
+setup-step-requires : tie.Need-setup-step-requires Inv-loop μ-loop
+unfolding order
+setup-step-requires c κs =
+    let a = c .before .before .before .before .before .args in
+    (c .before .before .before .first .ensures, omega arith, omega (arith, row-before 3 (3 + a .n) (a .columns) (omega arith)))
+
+next-requires : tie.Need-next-requires Inv-loop μ-loop
+unfolding order
+next-requires c κs =
+    subst Fits (sym (c .before .before .before .before .before .before .first .ensures)) (order-fits 0 (omega arith))
+
 loop-holds : tie.Need-loop-holds Inv-loop μ-loop
 unfolding order
 loop-holds c =
-    (omega arith, c .first .ensures, sym (zero-mul _), refl, loop-none _ _)
+    let first = c .before .before .before .before .before .before .before .first .ensures in
+    let step = c .before .before .before .setup-step .ensures in
+    (omega arith, c .next .ensures ∙ ap nextOrder first, omega (arith, step .0), refl, λ w e. e)
 
-add-t10 : tie.Need-add-t10 Inv-loop μ-loop
-add-t10 c = omega arith
-
-add-t13 : tie.Need-add-t13 Inv-loop μ-loop
-add-t13 c = omega arith
-
-setup-row-requires : tie.Need-setup-row-requires Inv-loop μ-loop
-setup-row-requires c κs =
-    let head = c .before .before .before in
-    let a = head .before .before .before .args in
-    (omega (arith, row-before (3 + head .loop .k) (3 + a .n) (a .columns) (omega arith)), earlier (head .loop .k) (a .columns) (head .loop .o) (head .loop .inv .1))
+setup-step-requires-2 : tie.Need-setup-step-requires-2 Inv-loop μ-loop
+setup-step-requires-2 c κs =
+    let v = c .before .before .before .loop in
+    let first = c .before .before .before .before .before .before .before .setup-step in
+    let a = c .before .before .before .before .before .before .before .before .before .before .before .before .before .args in
+    (v .inv .1, omega arith, omega (arith, v .inv .3, first .kept .1 .0, row-before (3 + v .k) (3 + a .n) (a .columns) (omega arith)))
 
 add-calls : tie.Need-add-calls Inv-loop μ-loop
 add-calls c =
-    let head = c .before .before .before .before .before .before in
-    let a = head .before .before .before .args in
-    omega (arith, row-before (head .loop .k) (3 + a .n) (a .columns) (omega arith))
+    let v = c .before .before .before .before .before .before .loop in
+    let a = c .before .before .before .before .before .before .before .before .before .before .before .before .before .before .before .before .args in
+    omega (arith, row-before (v .k) (3 + a .n) (a .columns) (omega arith))
 
-next-requires : tie.Need-next-requires Inv-loop μ-loop
-next-requires c κs =
-    let head = c .before .before .before .before .before .before in
-    subst Fits (sym (head .loop .inv .1)) (order-fits (head .loop .k) (omega arith))
+next-requires-2 : tie.Need-next-requires-2 Inv-loop μ-loop
+next-requires-2 c κs =
+    let v = c .before .before .before .before .before .before .loop in
+    subst Fits (sym (v .inv .1)) (order-fits (v .k) (omega arith))
 
 add-k : tie.Need-add-k Inv-loop μ-loop
 add-k c = omega arith
@@ -66,30 +85,32 @@ loop-less : tie.Need-loop-less Inv-loop μ-loop
 loop-less c = omega arith
 
 loop-again : tie.Need-loop-again Inv-loop μ-loop
-unfolding order setupStep
+unfolding order
 loop-again c =
-    let head = c .before .before .before .before .before .before .before in
-    let call = c .before .before .before in
-    let a = head .before .before .before .args in
-    let e = head .loop .inv .1 in (
+    let v = c .before .before .before .before .before .before .before .loop in
+    let step = c .before .before .before .setup-step2 in
+    let a = c .before .before .before .before .before .before .before .before .before .before .before .before .before .before .before .before .before .args in (
       omega arith,
-      c .next .ensures ∙ rw add-one (ap nextOrder e),
-      omega (arith, row-more (head .loop .k) (a .columns)),
-      call .setup-row .kept .1 .0 ∙ head .loop .inv .3,
-      loop-more _ _ _ _ _ (head .loop .inv .4) (call .setup-row .ensures .1 ∙ ap (λ (o : Order). setupRow profile (a .columns) (rowsWith (head .loop .k) o) (work (head .loop .s) (head .loop .m))) e),
+      c .next2 .ensures ∙ rw add-one (ap nextOrder (v .inv .1)),
+      omega (arith, step .ensures .0, v .inv .2, row-more (v .k) (a .columns)),
+      step .kept .1 .0 ∙ v .inv .3,
+      λ w e. loop-more _ _ _ _ _ (v .inv .4 w e) (step .ensures .1),
     )
 
 same-length : tie.Need-same-length Inv-loop μ-loop
-same-length c = c .before .loop .inv .3
+same-length c = c .before .loop .inv .3 ∙ c .before .before .before .before .before .setup-step .kept .1 .0
 
-returns : tie.Need-returns Inv-loop μ-loop
+returns-2 : tie.Need-returns-2 Inv-loop μ-loop
 unfolding setupRows
-returns c =
-    let a = c .before .before .before .before .args in
-    let at-end : c .before .loop .k ≡ a .n = omega arith in (
-      ap (λ (o : Order). o .prev1) (c .before .loop .inv .1) ∙ ap (λ (k : ℕ). order k .prev1) at-end,
-      c .before .loop .inv .2 ∙ ap (λ (k : ℕ). k * a .columns) at-end,
-      loop-end _ _ _ _ _ (c .before .loop .inv .4) at-end,
+returns-2 c =
+    let a = c .before .before .before .before .before .before .before .before .before .before .before .args in
+    let v = c .before .loop in
+    let step = c .before .before .before .before .before .setup-step .ensures in
+    let w = work (now (a .s)) (now (a .m)) in
+    let at-end : v .k ≡ a .n = omega arith in (
+      ap (λ (o : Order). o .prev1) (v .inv .1) ∙ ap (λ (k : ℕ). order k .prev1) at-end,
+      v .inv .2 ∙ ap (λ (k : ℕ). k * a .columns) at-end,
+      loop-end _ _ _ _ _ (v .inv .4 w (loop-more (setupStep profile (a .columns)) 0 w w _ (loop-none _ _) (step .1))) at-end,
     )
 
 pub setup-rows-spec : {M : Type 1} → statement M
@@ -99,14 +120,15 @@ setup-rows-spec =
     Inv-loop
     μ-loop
     first-requires
-    loop-holds
-    add-t10
-    add-t13
-    setup-row-requires
-    add-calls
+    returns
+    setup-step-requires
     next-requires
+    loop-holds
+    setup-step-requires-2
+    add-calls
+    next-requires-2
     add-k
     loop-less
     loop-again
     same-length
-    returns)
+    returns-2)

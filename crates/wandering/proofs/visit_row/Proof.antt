@@ -24,10 +24,10 @@ use Rattle.columns.proofs.visit_column.Reads as visit-column-reads
 use Rattle.wandering.proofs.note_pair.Reads as note-pair-reads
 
 abbrev Inv-loop : tie.InvT-loop
-Inv-loop s m₀ rows columns record₀ at state₀ p₀ calls₀ col₀ m «record» state p calls col = (col ≤ columns) × (calls ≡ col) × (length m ≡ length m₀) × (length «record» ≡ length record₀) × (work state m ≡ visitColumns profile columns rows col (work s m₀)) × («record» ≡ zipAt (λ (x y : ℕ). y) at record₀ (encodePicks (columnPicks profile columns rows col (work s m₀)))) × (p ≡ picks profile columns state) × (p .col0 .0 < columns) × (p .col1 .0 < columns)
+Inv-loop s₀ m₀ rows columns record₀ at p₀ calls₀ col₀ s m «record» p calls col = (col ≤ columns) × (calls ≡ col) × (length m ≡ length m₀) × (length «record» ≡ length record₀) × (work s m ≡ visitColumns profile columns rows col (work s₀ m₀)) × («record» ≡ zipAt (λ (x y : ℕ). y) at record₀ (encodePicks (columnPicks profile columns rows col (work s₀ m₀)))) × (p ≡ picks profile columns s) × (p .col0 .0 < columns) × (p .col1 .0 < columns)
 
 abbrev μ-loop : tie.MeasureT-loop
-μ-loop s m₀ rows columns record₀ at state₀ p₀ calls₀ col₀ m «record» state p calls col = columns - col
+μ-loop s₀ m₀ rows columns record₀ at p₀ calls₀ col₀ s m «record» p calls col = columns - col
 
 pick-columns-requires : tie.Need-pick-columns-requires Inv-loop μ-loop
 pick-columns-requires c κs = omega arith
@@ -50,7 +50,7 @@ note-pair-requires c κs = omega arith
 visit-column-requires : tie.Need-visit-column-requires Inv-loop μ-loop
 visit-column-requires c κs =
     let head = c .before .before .before .before .before .before .before in
-    let start = head .before .before .before .before .before .before in
+    let start = head .before .before .before .before .before in
     (omega arith, head .loop .inv .7, head .loop .inv .8, subst (Within (start .args .columns) (start .args .rows)) (sym (head .loop .inv .2)) (start .pre .1))
 
 add-calls : tie.Need-add-calls Inv-loop μ-loop
@@ -68,15 +68,15 @@ loop-again c =
     let visited = c .before .before .visit-column in
     let noted = c .before .before .before .before .before .before .before .note-pair in
     let head = c .before .before .before .before .before .before .before .before .before .before in
-    let a = head .before .before .before .before .before .before .args in
+    let a = head .before .before .before .before .before .args in
     let v = head .loop in (
       omega (arith, c .before .before .before .before .before .before .before .before .before .loop-test .taken),
       omega (arith, v .inv .1),
       visited .kept .1 .0 ∙ v .inv .2,
       noted .kept .0 ∙ v .inv .3,
       loop-more (visitStep profile (a .columns) (a .rows)) _ _ _ _ (v .inv .4)
-          (visit-column-done (a .columns) (a .rows) (v .col) (v .p) (v .state) (v .m) _ _ (visited .ensures .3) (visited .ensures .4)
-          ∙ ap (λ (q : Picks). visitColumn profile (a .columns) (a .rows) (v .col) q (work (v .state) (v .m))) (v .inv .6)),
+          (visit-column-done (a .columns) (a .rows) (v .col) (v .p) (v .s) (v .m) _ _ (visited .ensures .3) (visited .ensures .4)
+          ∙ ap (λ (q : Picks). visitColumn profile (a .columns) (a .rows) (v .col) q (work (v .s) (v .m))) (v .inv .6)),
       noted .ensures
           ∙ column-noted profile (a .columns) (a .rows) _ (v .col) (a .at) _ (v .«record») (v .p) (v .inv .5)
           (v .inv .6 ∙ ap (λ (w : Work). picks profile (a .columns) (w .state)) (v .inv .4)),
@@ -93,7 +93,7 @@ same-length-2 c = c .before .loop .inv .3
 
 returns : tie.Need-returns Inv-loop μ-loop
 returns c =
-    let a = c .before .before .before .before .before .before .before .args in
+    let a = c .before .before .before .before .before .before .args in
     let v = c .before .loop in
     let at-end : v .col ≡ a .columns = omega arith in
     (omega arith, rw at-end at (v .inv .4), rw at-end at (v .inv .5))
