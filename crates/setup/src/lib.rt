@@ -78,8 +78,8 @@ fn setup_step(s: &mut [u64; 16], m: &mut [u64], k: usize, o: Order, columns: usi
     setup_row(s, m, rows, columns)
 }
 
-// The rows from 3 on, of which there are n. Row 3 is called for by itself: the compiler then leaves a row a function of its
-// own, and the round a function below it, which is faster than all of them in one.
+// The rows from 3 on, of which there are n. Row 3 is called for by itself, so that the compiler leaves a row a function of its
+// own, which is faster.
 fn setup_rows(s: &mut [u64; 16], m: &mut [u64], n: usize, columns: usize) -> SetUp
     requires { ⌜ (3 + n ≤ 2 ^ 32) × (12 * ((3 + n) * columns) ≤ length (now m)) ⌝ }
     ensures { λ r. ⌜ (r .prev1 ≡ order n .prev1) × (r .calls ≡ n * columns) × (work (now (s .exit)) (now (m .exit)) ≡ setupRows profile columns n (work (now (s .entry)) (now (m .entry)))) ⌝ }

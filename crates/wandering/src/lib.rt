@@ -104,7 +104,7 @@ fn visit(
 }
 
 // n visits, of which the first has the given rows for its previous ones. The record gets them from its start on. The first is
-// called for by itself for the same reason as Setup's first step.
+// called for by itself, so that the compiler leaves a visit a function of its own, which is faster.
 pub fn wander(
     s: &mut [u64; 16],
     m: &mut [u64],
