@@ -5,7 +5,7 @@ use mathlib.Core.List.{List, [], _∷_, _++_}
 use lib.ListN.{length, drop, replicate}
 use Rattle.little_endian.specs.Bytes.{leEach}
 use Rattle.little_endian.proofs.ByteLaws.{AllBytes, append-bytes, each-bytes, drop-bytes, words-fit}
-use Rattle.permutation.specs.Inverse.{Addition}
+use Rattle.permutation.specs.Inverse.{Addition, Undoes}
 use Rattle.permutation.proofs.State.{IsState}
 use Rattle.sponge.specs.Profile.{fullRounds}
 use Rattle.sponge.proofs.Absorbing.{absorb-state, start-state}
@@ -35,12 +35,12 @@ padded-bytes password salt ns hp hs =
     (append-bytes password (salt ++ leEach 4 ns) hp (append-bytes salt (leEach 4 ns) hs (each-bytes 4 ns)))
     (padding-bytes (missing (length (unpadded password salt ns))))
 
-module _ (A : Addition) where
+module _ {A : Addition} (u : Undoes A) where
   pub blocks-state : (n : ℕ) (bytes : List ℕ) {s : List ℕ} → AllBytes bytes → IsState s → IsState (absorbBlocks (A .sum) n bytes s)
   unfolding absorbBlocks
   blocks-state zero bytes hb hs = hs
   blocks-state (suc n) bytes hb hs =
-      absorb-state A fullRounds (block bytes n) (words-fit 8 (drop (64 * n) bytes) (drop-bytes (64 * n) bytes hb))
+      absorb-state u fullRounds (block bytes n) (words-fit 8 (drop (64 * n) bytes) (drop-bytes (64 * n) bytes hb))
       (blocks-state n bytes hb hs)
 
   module _ (password salt ns : List ℕ) (hp : AllBytes password) (hs : AllBytes salt) where

@@ -14,7 +14,7 @@ use Rattle.lists.proofs.Words.{AllWords}
 use Rattle.little_endian.specs.Bytes.{leEach}
 use Rattle.little_endian.proofs.ByteLaws.{AllBytes, drop-bytes, words-fit, length-words}
 use Rattle.little_endian.proofs.Injective.{bytes-inj, words-inj, each-inj}
-use Rattle.permutation.specs.Inverse.{Addition}
+use Rattle.permutation.specs.Inverse.{Addition, Undoes}
 use Rattle.permutation.proofs.State.{IsState}
 use Rattle.sponge.specs.Profile.{fullRounds, start}
 use Rattle.sponge.specs.Sponge.{absorb}
@@ -98,7 +98,7 @@ module _ (k k′ : ℕ) (p s p′ s′ rest rest′ : List ℕ) (count : length 
 
 -- ---- the padded input from the state
 
-module _ (A : Addition) (bytes bytes′ : List ℕ) (h : AllBytes bytes) (h′ : AllBytes bytes′) where
+module _ {A : Addition} (u : Undoes A) (bytes bytes′ : List ℕ) (h : AllBytes bytes) (h′ : AllBytes bytes′) where
   block-words : (l : List ℕ) → AllBytes l → (i : ℕ) → AllWords (block l i)
   block-words l hl i = words-fit 8 (drop (64 * i) l) (drop-bytes (64 * i) l hl)
 
@@ -130,19 +130,19 @@ module _ (A : Addition) (bytes bytes′ : List ℕ) (h : AllBytes bytes) (h′ :
   absorb-blocks-inj b (suc n) s hs same e =
       let t = absorbBlocks (A .sum) n bytes s in
       let t′ = absorbBlocks (A .sum) n bytes′ s in
-      let ht = blocks-state A n bytes h hs in
-      let ht′ = blocks-state A n bytes′ h′ hs in
+      let ht = blocks-state u n bytes h hs in
+      let ht′ = blocks-state u n bytes′ h′ hs in
       elim (ℕ-discrete n b) [
         | yes here ↦
             let before : (j : ℕ) → j < n → block bytes j ≡ block bytes′ j = λ j l. same j (omega arith) (omega arith) in
             up-to n before
-            (absorbed-words A fullRounds t (block bytes n) (block bytes′ n) (block-words bytes h n) (block-words bytes′ h′ n) ht
+            (absorbed-words u fullRounds t (block bytes n) (block bytes′ n) (block-words bytes h n) (block-words bytes′ h′ n) ht
             (omega (arith, length-block bytes n)) (length-block bytes n ∙ sym (length-block bytes′ n))
             (e ∙ ap (absorb (A .sum) fullRounds (block bytes′ n)) (sym (absorb-same-blocks n s before))))
         | no other ↦
             let one : block bytes n ≡ block bytes′ n = same n (omega arith) other in
             let states =
-            absorb-inj A fullRounds (block bytes n) t t′ (block-words bytes h n) ht ht′
+            absorb-inj u fullRounds (block bytes n) t t′ (block-words bytes h n) ht ht′
             (e ∙ ap (λ (words : List ℕ). absorb (A .sum) fullRounds words t′) (sym one)) in
             up-to n (absorb-blocks-inj b n s hs (λ j l. same j (omega arith)) states) one
       ]
@@ -157,7 +157,7 @@ module _ (A : Addition) (bytes bytes′ : List ℕ) (h : AllBytes bytes) (h′ :
       ∙ take-all (64 * n) bytes′ (omega arith)
 
 -- the input from the state, with equally many blocks of which at most block b differs
-module _ (A : Addition) (k k′ : ℕ) (p s p′ s′ rest rest′ : List ℕ) (count : length rest ≡ length rest′)
+module _ {A : Addition} (u : Undoes A) (k k′ : ℕ) (p s p′ s′ rest rest′ : List ℕ) (count : length rest ≡ length rest′)
     (hp : AllBytes p) (hs : AllBytes s) (hp′ : AllBytes p′) (hs′ : AllBytes s′) where
   abbrev ns : List ℕ
   ns = k ∷ length p ∷ length s ∷ rest
@@ -178,5 +178,5 @@ module _ (A : Addition) (k k′ : ℕ) (p s p′ s′ rest rest′ : List ℕ) (
       let e′ : absorbBlocks (A .sum) n (padded p s ns) start ≡ absorbBlocks (A .sum) n (padded p′ s′ ns′) start =
       e ∙ ap (λ (m : ℕ). absorbBlocks (A .sum) m (padded p′ s′ ns′) start) (sym many) in
       padded-inj k k′ p s p′ s′ rest rest′ count hk hk′ lp lp′
-      (same-blocks-bytes A (padded p s ns) (padded p′ s′ ns′) x y n (length-padded p s ns) (length-padded p′ s′ ns′ ∙ ap (λ (m : ℕ). 64 * m) (sym many))
-      (absorb-blocks-inj A (padded p s ns) (padded p′ s′ ns′) x y b n start start-state same e′))
+      (same-blocks-bytes u (padded p s ns) (padded p′ s′ ns′) x y n (length-padded p s ns) (length-padded p′ s′ ns′ ∙ ap (λ (m : ℕ). 64 * m) (sym many))
+      (absorb-blocks-inj u (padded p s ns) (padded p′ s′ ns′) x y b n start start-state same e′))

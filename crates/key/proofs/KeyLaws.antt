@@ -11,7 +11,7 @@ use lib.Seq.{getD-take, getD-append-add, length-take-le}
 use Rattle.little_endian.specs.Bytes.{leBytes, leEach}
 use Rattle.little_endian.proofs.ByteLaws.{AllBytes, length-each, getD-each, append-bytes, each-bytes, take-bytes}
 use Rattle.permutation.specs.Round.{rounds}
-use Rattle.permutation.specs.Inverse.{Addition}
+use Rattle.permutation.specs.Inverse.{Addition, Undoes}
 use Rattle.permutation.proofs.State.{IsState}
 use Rattle.permutation.proofs.Undo.{rounds-state}
 use Rattle.sponge.specs.Profile.{fullRounds}
@@ -134,11 +134,11 @@ module _ (sum : ℕ → ℕ → ℕ) (s₀ : List ℕ) where
         ∙ sym (key-at sum s₀ n i h)
 
 -- ---- states
-module _ (A : Addition) where
+module _ {A : Addition} (u : Undoes A) where
   fullCalls-state : (k : ℕ) {s : List ℕ} → IsState s → IsState (fullCalls (A .sum) k s)
   unfolding fullCalls
   fullCalls-state zero h = h
-  fullCalls-state (suc k) h = rounds-state A fullRounds (fullCalls-state k h)
+  fullCalls-state (suc k) h = rounds-state u fullRounds (fullCalls-state k h)
 
   pub squeezed-state : (n : ℕ) {s : List ℕ} → IsState s → IsState (squeezed (A .sum) n s)
   unfolding squeezed

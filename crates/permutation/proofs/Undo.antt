@@ -12,7 +12,7 @@ use Rattle.permutation.specs.Word.{turnRight}
 use Rattle.permutation.specs.declared.Words.{Words}
 use Rattle.permutation.specs.declared.Quad.{Quad}
 use Rattle.permutation.specs.Round.{halfG, G, wordsAt, putWords, applyG, applyAll, quads, round, rounds}
-use Rattle.permutation.specs.Inverse.{Addition, unHalfG, unG, unapplyG, unapplyAll, unround, unrounds}
+use Rattle.permutation.specs.Inverse.{Addition, Undoes, unHalfG, unG, unapplyG, unapplyAll, unround, unrounds}
 use Rattle.permutation.proofs.WordLaws.{xor-undo, turn-word, turn-undo}
 use Rattle.lists.proofs.Words.{AllWords}
 use Rattle.permutation.proofs.State.{IsState, set-state}
@@ -35,39 +35,39 @@ turned-undo n hn x y hx hy =
 
 -- ---- G
 
-module _ (A : Addition) (m n : ℕ) (hm : m ≤ 64) (hn : n ≤ 64) where
+module _ {A : Addition} (u : Undoes A) (m n : ℕ) (hm : m ≤ 64) (hn : n ≤ 64) where
   halfG-words : (w : Words) → FourWords w → FourWords (halfG (A .sum) m n w)
   unfolding halfG
   halfG-words w h =
-      let ha = A .sum-word (w .a) (w .b) (h .a) (h .b) in
+      let ha = u .sum-word (w .a) (w .b) (h .a) (h .b) in
       let hd = turned-word m hm (w .d) (A .sum (w .a) (w .b)) (h .d) ha in
-      let hc = A .sum-word (w .c) (turnRight m (bitXor (w .d) (A .sum (w .a) (w .b)))) (h .c) hd in
+      let hc = u .sum-word (w .c) (turnRight m (bitXor (w .d) (A .sum (w .a) (w .b)))) (h .c) hd in
       record { a = ha; b = turned-word n hn (w .b) _ (h .b) hc; c = hc; d = hd }
 
   halfG-undo : (w : Words) → FourWords w → unHalfG (A .back) m n (halfG (A .sum) m n w) ≡ w
   unfolding halfG unHalfG
   halfG-undo w h =
-      let ha = A .sum-word (w .a) (w .b) (h .a) (h .b) in
+      let ha = u .sum-word (w .a) (w .b) (h .a) (h .b) in
       let hd = turned-word m hm (w .d) (A .sum (w .a) (w .b)) (h .d) ha in
-      let hc = A .sum-word (w .c) (turnRight m (bitXor (w .d) (A .sum (w .a) (w .b)))) (h .c) hd in
+      let hc = u .sum-word (w .c) (turnRight m (bitXor (w .d) (A .sum (w .a) (w .b)))) (h .c) hd in
       let eb = turned-undo n hn (w .b) (A .sum (w .c) (turnRight m (bitXor (w .d) (A .sum (w .a) (w .b))))) (h .b) hc in
       let ed = turned-undo m hm (w .d) (A .sum (w .a) (w .b)) (h .d) ha in
-      let ec = A .sum-back (w .c) (turnRight m (bitXor (w .d) (A .sum (w .a) (w .b)))) (h .c) hd in
-      let ea = ap (A .back (A .sum (w .a) (w .b))) eb ∙ A .sum-back (w .a) (w .b) (h .a) (h .b) in
+      let ec = u .sum-back (w .c) (turnRight m (bitXor (w .d) (A .sum (w .a) (w .b)))) (h .c) hd in
+      let ea = ap (A .back (A .sum (w .a) (w .b))) eb ∙ u .sum-back (w .a) (w .b) (h .a) (h .b) in
       λ i. record { a = ea i; b = eb i; c = ec i; d = ed i }
 
-module _ (A : Addition) where
+module _ {A : Addition} (u : Undoes A) where
   pub G-words : (w : Words) → FourWords w → FourWords (G (A .sum) w)
   unfolding G
   G-words w h =
-      halfG-words A 16 63 (omega arith) (omega arith) _ (halfG-words A 32 24 (omega arith) (omega arith) w h)
+      halfG-words u 16 63 (omega arith) (omega arith) _ (halfG-words u 32 24 (omega arith) (omega arith) w h)
 
   pub G-undo : (w : Words) → FourWords w → unG (A .back) (G (A .sum) w) ≡ w
   unfolding G unG
   G-undo w h =
       ap (unHalfG (A .back) 32 24)
-      (halfG-undo A 16 63 (omega arith) (omega arith) _ (halfG-words A 32 24 (omega arith) (omega arith) w h))
-      ∙ halfG-undo A 32 24 (omega arith) (omega arith) w h
+      (halfG-undo u 16 63 (omega arith) (omega arith) _ (halfG-words u 32 24 (omega arith) (omega arith) w h))
+      ∙ halfG-undo u 32 24 (omega arith) (omega arith) w h
 
 -- ---- G at four distinct positions
 
@@ -124,17 +124,17 @@ unfolding wordsAt putWords
 put-wordsAt q s = simp (set-getD)
 
 -- ---- the round and n rounds
-module _ (A : Addition) where
+module _ {A : Addition} (u : Undoes A) where
   applyG-state : (q : Quad) {s : List ℕ} → IsState s → IsState (applyG (A .sum) q s)
   unfolding applyG
-  applyG-state q {s} hs = putWords-state q _ (G-words A (wordsAt q s) (wordsAt-words q s (hs .word))) hs
+  applyG-state q {s} hs = putWords-state q _ (G-words u (wordsAt q s) (wordsAt-words q s (hs .word))) hs
 
   applyG-undo : (q : Quad) → Spread q → (s : List ℕ) → IsState s → unapplyG (A .back) q (applyG (A .sum) q s) ≡ s
   unfolding applyG unapplyG
   applyG-undo q h s hs =
       let w = G (A .sum) (wordsAt q s) in
       ap (λ (v : Words). putWords q v (putWords q w s))
-      (ap (unG (A .back)) (wordsAt-put q h w s (hs .len)) ∙ G-undo A (wordsAt q s) (wordsAt-words q s (hs .word)))
+      (ap (unG (A .back)) (wordsAt-put q h w s (hs .len)) ∙ G-undo u (wordsAt q s) (wordsAt-words q s (hs .word)))
       ∙ put-put q h w s (wordsAt q s) ∙ put-wordsAt q s
 
   applyAll-state : (qs : List Quad) {s : List ℕ} → IsState s → IsState (applyAll (A .sum) qs s)

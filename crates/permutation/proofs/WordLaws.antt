@@ -8,7 +8,7 @@ use lib.Arith.{bin-ind, digits-lt, digits-div, digits-mod}
 use lib.Pow.{pow-pos, pow-add, mod-pow-add, shl-shr, shr-lt, high, low, split}
 use lib.Bits.{bitXor, bitOr, differ, xor-step, xor-zero-r, xor-self, xor-lt, or-shifted-r}
 use Rattle.permutation.specs.Word.{turnRight, plainSum}
-use Rattle.permutation.specs.Inverse.{Addition, plainBack}
+use Rattle.permutation.specs.Inverse.{Undoes, plain}
 
 -- ---- XOR
 
@@ -103,10 +103,8 @@ turn-undo n k both x h =
 
 -- ---- the plain sum
 
-unfoldable pub plain : Addition
-plain = record {
-  sum = plainSum;
-  back = plainBack;
+pub plain-undoes : Undoes plain
+plain-undoes = record {
   sum-word = λ a b ha hb. omega arith;
   back-word = λ a b ha hb. omega arith;
   sum-back = λ a b ha hb. omega arith;

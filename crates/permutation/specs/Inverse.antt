@@ -3,22 +3,28 @@ use mathlib.Core.Path.{_≡_}
 use Prim.Native.Nat.{ℕ, zero, suc, _+_, _-_, _%_, _^_, _<_}
 use mathlib.Core.List.{List, [], _∷_}
 use lib.Bits.{bitXor}
-use Rattle.permutation.specs.Word.{turnRight}
+use Rattle.permutation.specs.Word.{turnRight, plainSum}
 use Rattle.permutation.specs.declared.Words.{Words}
 use Rattle.permutation.specs.declared.Quad.{Quad}
 use Rattle.permutation.specs.Round.{wordsAt, putWords, quads}
 
--- an addition of words that can be undone where its second operand is known
+-- an addition of words, and the difference that is to undo it where the second operand is known
 pub record Addition : Type 0 where
   pub sum : ℕ → ℕ → ℕ
   pub back : ℕ → ℕ → ℕ
-  pub sum-word : (a b : ℕ) → a < 2 ^ 64 → b < 2 ^ 64 → sum a b < 2 ^ 64
-  pub back-word : (a b : ℕ) → a < 2 ^ 64 → b < 2 ^ 64 → back a b < 2 ^ 64
-  pub sum-back : (a b : ℕ) → a < 2 ^ 64 → b < 2 ^ 64 → back (sum a b) b ≡ a
+
+-- words go to words, and the difference does undo the sum
+pub record Undoes (A : Addition) : Type 0 where
+  pub sum-word : (a b : ℕ) → a < 2 ^ 64 → b < 2 ^ 64 → A .sum a b < 2 ^ 64
+  pub back-word : (a b : ℕ) → a < 2 ^ 64 → b < 2 ^ 64 → A .back a b < 2 ^ 64
+  pub sum-back : (a b : ℕ) → a < 2 ^ 64 → b < 2 ^ 64 → A .back (A .sum a b) b ≡ a
 
 -- the difference that undoes plainSum
 abbrev pub plainBack : ℕ → ℕ → ℕ
 plainBack a b = (a + (2 ^ 64 - b)) % 2 ^ 64
+
+abbrev pub plain : Addition
+plain = record { sum = plainSum; back = plainBack }
 
 -- halfG undone, its last step first
 unfoldable pub unHalfG : (ℕ → ℕ → ℕ) → ℕ → ℕ → Words → Words

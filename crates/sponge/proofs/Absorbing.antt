@@ -10,7 +10,7 @@ use Rattle.lists.specs.Zip.{xorInto}
 use Rattle.lists.proofs.Words.{AllWords, each-words}
 use Rattle.lists.proofs.ZipLaws.{length-zip, zip-undo, zip-inj, xor-words}
 use Rattle.permutation.specs.Round.{rounds}
-use Rattle.permutation.specs.Inverse.{Addition, unrounds}
+use Rattle.permutation.specs.Inverse.{Addition, Undoes, unrounds}
 use Rattle.permutation.proofs.WordLaws.{xor-undo, xor-undo-left}
 use Rattle.permutation.proofs.State.{IsState}
 use Rattle.permutation.proofs.Undo.{rounds-state, rounds-undo}
@@ -33,15 +33,15 @@ xor-state {s} words hw hs =
 xor-inj : (x y z : ℕ) → bitXor x y ≡ bitXor x z → y ≡ z
 xor-inj x y z e = sym (xor-undo-left x y) ∙ ap (bitXor x) e ∙ xor-undo-left x z
 
-module _ (A : Addition) (n : ℕ) where
+module _ {A : Addition} (u : Undoes A) (n : ℕ) where
   pub absorb-state : {s : List ℕ} (words : List ℕ) → AllWords words → IsState s → IsState (absorb (A .sum) n words s)
   unfolding absorb
-  absorb-state words hw hs = rounds-state A n (xor-state words hw hs)
+  absorb-state words hw hs = rounds-state u n (xor-state words hw hs)
 
   pub absorb-undo : (words s : List ℕ) → AllWords words → IsState s → unabsorb (A .back) n words (absorb (A .sum) n words s) ≡ s
   unfolding absorb unabsorb
   absorb-undo words s hw hs =
-      ap (λ (t : List ℕ). xorInto t words) (rounds-undo A n (xorInto s words) (xor-state words hw hs))
+      ap (λ (t : List ℕ). xorInto t words) (rounds-undo u n (xorInto s words) (xor-state words hw hs))
       ∙ zip-undo bitXor bitXor xor-undo s words
 
   -- what is undone is injective
@@ -54,5 +54,5 @@ module _ (A : Addition) (n : ℕ) where
   unfolding absorb
   absorbed-words s vs ws hv hw hs l e p =
       zip-inj bitXor xor-inj s vs ws (omega (arith, hs .len)) e
-      (sym (rounds-undo A n (xorInto s vs) (xor-state vs hv hs))
-      ∙ ap (unrounds (A .back) n) p ∙ rounds-undo A n (xorInto s ws) (xor-state ws hw hs))
+      (sym (rounds-undo u n (xorInto s vs) (xor-state vs hv hs))
+      ∙ ap (unrounds (A .back) n) p ∙ rounds-undo u n (xorInto s ws) (xor-state ws hw hs))

@@ -1,0 +1,2 @@
+-- What a derivation goes by.
+pub mod Settings
