@@ -12,15 +12,16 @@ use Rattle.lists.specs.Zip.{zipAt, xorInto}
 use Rattle.lists.proofs.Words.{AllWords}
 use Rattle.lists.proofs.ZipLaws.{length-zipAt, xor-words}
 use Rattle.lists.proofs.Parts.{zipAt-undo}
-use Rattle.permutation.specs.Inverse.{Addition}
+use Rattle.permutation.specs.Inverse.{Undoes}
 use Rattle.permutation.specs.Round.{rounds}
 use Rattle.permutation.proofs.State.{IsState}
 use Rattle.permutation.proofs.Undo.{rounds-state, rounds-inj}
 use Rattle.permutation.proofs.WordLaws.{xor-undo}
-use Rattle.sponge.specs.Sponge.{absorb, rand, cellSum}
+use Rattle.sponge.specs.Sponge.{rand, cellSum}
 use Rattle.sponge.proofs.Sums.{sum-words}
 use Rattle.sponge.proofs.Absorbing.{absorb-state, absorb-inj}
-use Rattle.columns.specs.Settings.{Work, work}
+use Rattle.settings.specs.Settings.{Settings}
+use Rattle.columns.specs.Columns.{Work, work, duplexed}
 use Rattle.sponge.proofs.Output.{length-rand, rand-words}
 use Rattle.matrix.specs.Cells.{rotated}
 use Rattle.matrix.proofs.CellLaws.{length-rotated, rotated-words}
@@ -56,11 +57,11 @@ module _ {P : Cells} where
 
 -- ---- the steps: words of the matrix duplexed, a call alone, a cell overwritten, words of the state XORed into a cell
 
-abbrev pub duplexed : (ℕ → ℕ → ℕ) → ℕ → (List ℕ → List ℕ) → Work → Work
-duplexed sum ρ f w = work (absorb sum ρ (f (w .matrix)) (w .state)) (w .matrix)
+abbrev pub duplex : Settings → (List ℕ → List ℕ) → Work → Work
+duplex S f w = work (duplexed S (f (w .matrix)) (w .state)) (w .matrix)
 
-abbrev pub called : (ℕ → ℕ → ℕ) → ℕ → Work → Work
-called sum ρ w = work (rounds sum ρ (w .state)) (w .matrix)
+abbrev pub called : Settings → Work → Work
+called S w = work (rounds (S .addition .sum) (S .rounds) (w .state)) (w .matrix)
 
 abbrev pub put : ℕ → (List ℕ → List ℕ → List ℕ) → Work → Work
 put q f w = work (w .state) (zipAt (λ x y. y) (12 * q) (w .matrix) (f (w .state) (w .matrix)))
@@ -72,25 +73,25 @@ xored q g w = work (w .state) (zipAt bitXor (12 * q) (w .matrix) (g (w .state)))
 
 module _ (n : ℕ) {P : Cells} where
   -- the state alone changes
-  module _ (A : Addition) (ρ : ℕ) where
-    pub keeps-duplex : {f : List ℕ → List ℕ} → Made P f → Keeps n P P (duplexed (A .sum) ρ f)
+  module _ (S : Settings) (u : Undoes (S .addition)) where
+    pub keeps-duplex : {f : List ℕ → List ℕ} → Made P f → Keeps n P P (duplex S f)
     keeps-duplex {f} mf =
         record {
-          sound = λ w h. record { state = absorb-state A ρ (f (w .matrix)) (mf .words (w .matrix) (h .words)) (h .state); fits = h .fits; words = h .words };
-          forth = λ v w hv hw s. record { state = ap₂ (absorb (A .sum) ρ) (mf .same (v .matrix) (w .matrix) (s .cells)) (s .state); cells = s .cells };
+          sound = λ w h. record { state = absorb-state u (S .rounds) (f (w .matrix)) (mf .words (w .matrix) (h .words)) (h .state); fits = h .fits; words = h .words };
+          forth = λ v w hv hw s. record { state = ap₂ (duplexed S) (mf .same (v .matrix) (w .matrix) (s .cells)) (s .state); cells = s .cells };
           back = λ v w hv hw s. record {
-            state = absorb-inj A ρ (f (v .matrix)) (v .state) (w .state) (mf .words (v .matrix) (hv .words)) (hv .state) (hw .state)
-                (s .state ∙ ap (λ (xs : List ℕ). absorb (A .sum) ρ xs (w .state)) (sym (mf .same (v .matrix) (w .matrix) (s .cells))));
+            state = absorb-inj u (S .rounds) (f (v .matrix)) (v .state) (w .state) (mf .words (v .matrix) (hv .words)) (hv .state) (hw .state)
+                (s .state ∙ ap (λ (xs : List ℕ). duplexed S xs (w .state)) (sym (mf .same (v .matrix) (w .matrix) (s .cells))));
             cells = s .cells;
           };
         }
 
-    pub keeps-call : Keeps n P P (called (A .sum) ρ)
+    pub keeps-call : Keeps n P P (called S)
     keeps-call =
         record {
-          sound = λ w h. record { state = rounds-state A ρ (h .state); fits = h .fits; words = h .words };
-          forth = λ v w hv hw s. record { state = ap (rounds (A .sum) ρ) (s .state); cells = s .cells };
-          back = λ v w hv hw s. record { state = rounds-inj A ρ (v .state) (w .state) (hv .state) (hw .state) (s .state); cells = s .cells };
+          sound = λ w h. record { state = rounds-state u (S .rounds) (h .state); fits = h .fits; words = h .words };
+          forth = λ v w hv hw s. record { state = ap (rounds (S .addition .sum) (S .rounds)) (s .state); cells = s .cells };
+          back = λ v w hv hw s. record { state = rounds-inj u (S .rounds) (v .state) (w .state) (hv .state) (hw .state) (s .state); cells = s .cells };
         }
 
   -- a cell that is not compared is overwritten and compared from then on

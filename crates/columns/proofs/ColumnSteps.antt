@@ -9,33 +9,29 @@ use lib.ListN.{length}
 use lib.Bits.{bitXor}
 use Rattle.lists.specs.Zip.{xorInto}
 use Rattle.lists.proofs.ZipLaws.{length-zip}
-use Rattle.permutation.specs.Word.{plainSum}
-use Rattle.permutation.specs.Inverse.{Addition}
+use Rattle.permutation.specs.Inverse.{Undoes}
 use Rattle.permutation.proofs.State.{IsState}
-use Rattle.sponge.specs.Profile.{reducedRounds}
-use Rattle.sponge.specs.Sponge.{absorb, rand}
+use Rattle.sponge.specs.Sponge.{rand}
 use Rattle.sponge.proofs.Output.{length-rand, rand-words}
+use Rattle.settings.specs.Settings.{Settings}
 use Rattle.matrix.proofs.CellLaws.{length-cell}
 use Rattle.matrix.proofs.Apart.{cell, row-before}
-use Rattle.columns.specs.Settings.{Settings, settings, profile, work}
-use Rattle.columns.specs.Bounds.{Earlier}
-use Rattle.columns.specs.Columns.{fillColumn, copyColumn, setupCells, setupWritten, setupColumn, picks, visitCells, visitWritten, visitColumn}
+use Rattle.columns.specs.Bounds.{Filling}
+use Rattle.columns.specs.Columns.{work, duplexed, fillColumn, copyColumn, setupCells, setupWritten, setupColumn, picks, visitCells, visitWritten, visitColumn}
 use Rattle.columns.specs.declared.Rows.{Rows}
 use Rattle.columns.specs.declared.Picks.{Picks}
 use Rattle.columns.proofs.View.{Cells, Below, Keeps, keeps-then}
 use Rattle.columns.proofs.CellSteps.{Made, made-cell, made-sum, made-xor, made-known, put, keeps-duplex, keeps-call, keeps-put, keeps-xor-output, keeps-xor-rotated}
 
--- ---- Setup
-
 -- the rows before a row, and of that row the last cells, as many as columns were filled
 abbrev pub Filled : ℕ → ℕ → ℕ → Cells
 Filled C row col x = (x < row * C + C) × (row * C ≤ x → row * C + (C - col) ≤ x)
 
-module _ (A : Addition) (ρ ω n C : ℕ) where
-  abbrev S : Settings
-  S = settings A ρ ω
+module _ (S : Settings) (u : Undoes (S .addition)) (n : ℕ) where
+  abbrev C : ℕ
+  C = S .columns
 
-  -- a row is filled from its last column down
+  -- ---- Setup: a row is filled from its last column down
   module _ (row col : ℕ) (inside : row * C + C ≤ n) (lt : col < C) where
     keeps-fill : (f : List ℕ → List ℕ → List ℕ) → ((s : List ℕ) → IsState s → Made (Filled C row col) (f s))
         → ((s m : List ℕ) → 12 * n ≤ length m → length (f s m) ≡ 12)
@@ -56,29 +52,30 @@ module _ (A : Addition) (ρ ω n C : ℕ) where
           keeps-fill (λ s m. xorInto (cell (before * C + col) m) (rand s)) (λ s h. made-xor (rand s) (rand-words s (h .word)) made-before)
           (λ s m fits. length-zip bitXor (cell (before * C + col) m) (rand s) ∙ length-cell (12 * (before * C + col)) m (omega arith))
 
-  pub fill-column-keeps : (col : ℕ) → 0 * C + C ≤ n → col < C → Keeps n (Filled C 0 col) (Filled C 0 (suc col)) (fillColumn S C col)
+  pub fill-column-keeps : (col : ℕ) → 0 * C + C ≤ n → col < C → Keeps n (Filled C 0 col) (Filled C 0 (suc col)) (fillColumn S col)
   unfolding fillColumn
   fill-column-keeps col inside lt =
       keeps-then
       (keeps-fill 0 col inside lt (λ s m. rand s) (λ s h. made-known (rand s) (rand-words s (h .word))) (λ s m fits. length-rand s))
-      (keeps-call n A ρ)
+      (keeps-call n S u)
 
   pub copy-column-keeps : (prev0 row0 col : ℕ) → prev0 * C + C ≤ row0 * C → row0 * C + C ≤ n → col < C
-      → Keeps n (Filled C row0 col) (Filled C row0 (suc col)) (copyColumn S C prev0 row0 col)
+      → Keeps n (Filled C row0 col) (Filled C row0 (suc col)) (copyColumn S prev0 row0 col)
   unfolding copyColumn
   copy-column-keeps prev0 row0 col is inside lt =
-      keeps-then (keeps-duplex n A ρ (made-before row0 col inside lt prev0 is)) (keeps-fill-xored row0 col inside lt prev0 is)
+      keeps-then (keeps-duplex n S u (made-before row0 col inside lt prev0 is)) (keeps-fill-xored row0 col inside lt prev0 is)
 
-  pub setup-column-keeps : (r : Rows) (col : ℕ) → Earlier C r → r .row0 .0 * C + C ≤ n → col < C
-      → Keeps n (Filled C (r .row0 .0) col) (Filled C (r .row0 .0) (suc col)) (setupColumn S C r col)
+  pub setup-column-keeps : (r : Rows) (col : ℕ) → Filling C r (12 * n) → col < C
+      → Keeps n (Filled C (r .row0 .0) col) (Filled C (r .row0 .0) (suc col)) (setupColumn S r col)
   unfolding setupColumn setupCells setupWritten
-  setup-column-keeps r col is inside lt =
+  setup-column-keeps r col is lt =
+      let inside : r .row0 .0 * C + C ≤ n = omega (arith, is .row0) in
       let of = made-before (r .row0 .0) col inside lt in
       keeps-then
-      (keeps-duplex n A ρ
+      (keeps-duplex n S u
       (made-sum (made-sum (of (r .row1 .0) (is .row1)) (of (r .prev0 .0) (is .prev0))) (of (r .prev1 .0) (is .prev1))))
       (keeps-then (keeps-fill-xored (r .row0 .0) col inside lt (r .prev0 .0) (is .prev0))
-      (keeps-xor-rotated n (r .row1 .0 * C + col) ω))
+      (keeps-xor-rotated n (r .row1 .0 * C + col) (S .rotation)))
 
 -- ---- a visit
 
@@ -89,30 +86,31 @@ pub record RowsBelow (R : ℕ) (r : Rows) : Type 0 where
   pub prev0 : r .prev0 .0 < R
   pub prev1 : r .prev1 .0 < R
 
-module _ (A : Addition) (ρ ω R C : ℕ) where
-  pub visit-column-keeps : (r : Rows) → RowsBelow R r → (col : ℕ) → col < C → (p : Picks) → p .col0 .0 < C → p .col1 .0 < C
-      → Keeps (R * C) (Below (R * C)) (Below (R * C)) (visitColumn (settings A ρ ω) C r col p)
+module _ (S : Settings) (u : Undoes (S .addition)) (r : Rows) (below : RowsBelow (S .rows) r) (col : ℕ) (lt : col < S .columns) where
+  abbrev n : ℕ
+  n = S .rows * S .columns
+
+  visit-column-keeps : (p : Picks) → p .col0 .0 < S .columns → p .col1 .0 < S .columns
+      → Keeps n (Below n) (Below n) (visitColumn S r col p)
   unfolding visitColumn visitCells visitWritten
-  visit-column-keeps r below col lt p lt0 lt1 =
-      let of : (row : ℕ) → row < R → (c : ℕ) → c < C → Made (Below (R * C)) (cell (row * C + c)) =
-      λ row h c l. made-cell (row * C + c) (omega (arith, row-before row R C h)) in
+  visit-column-keeps p lt0 lt1 =
+      let of : (row : ℕ) → row < S .rows → (c : ℕ) → c < S .columns → Made (Below n) (cell (row * S .columns + c)) =
+      λ row h c l. made-cell (row * S .columns + c) (omega (arith, row-before row (S .rows) (S .columns) h)) in
       keeps-then
-      (keeps-duplex (R * C) A ρ
+      (keeps-duplex n S u
       (made-sum
       (made-sum (made-sum (of (r .row0 .0) (below .row0) col lt) (of (r .row1 .0) (below .row1) col lt))
       (of (r .prev0 .0) (below .prev0) (p .col0 .0) lt0))
       (of (r .prev1 .0) (below .prev1) (p .col1 .0) lt1)))
-      (keeps-then (keeps-xor-output (R * C) (r .row0 .0 * C + col)) (keeps-xor-rotated (R * C) (r .row1 .0 * C + col) ω))
+      (keeps-then (keeps-xor-output n (r .row0 .0 * S .columns + col)) (keeps-xor-rotated n (r .row1 .0 * S .columns + col) (S .rotation)))
 
   -- with the picks of any output
-  pub picked-column-keeps : (r : Rows) → RowsBelow R r → (col : ℕ) → col < C → (s : List ℕ)
-      → Keeps (R * C) (Below (R * C)) (Below (R * C)) (visitColumn (settings A ρ ω) C r col (picks (settings A ρ ω) C s))
+  pub picked-column-keeps : (s : List ℕ) → Keeps n (Below n) (Below n) (visitColumn S r col (picks S s))
   unfolding picks
-  picked-column-keeps r below col lt s =
-      visit-column-keeps r below col lt (picks (settings A ρ ω) C s) (mod-lt _ (omega arith)) (mod-lt _ (omega arith))
+  picked-column-keeps s = visit-column-keeps (picks S s) (mod-lt _ (omega arith)) (mod-lt _ (omega arith))
 
 -- the two parts of a visit's column together
-pub visit-column-done : (C : ℕ) (r : Rows) (col : ℕ) (p : Picks) (s m s′ m′ : List ℕ) → s′ ≡ absorb plainSum reducedRounds (visitCells C r col p m) s
-    → m′ ≡ visitWritten 2 C r col s′ m → work s′ m′ ≡ visitColumn profile C r col p (work s m)
+pub visit-column-done : (S : Settings) (r : Rows) (col : ℕ) (p : Picks) (s m s′ m′ : List ℕ) → s′ ≡ duplexed S (visitCells S r col p m) s
+    → m′ ≡ visitWritten S r col s′ m → work s′ m′ ≡ visitColumn S r col p (work s m)
 unfolding visitColumn
-visit-column-done C r col p s m s′ m′ es em = cc
+visit-column-done S r col p s m s′ m′ es em = cc

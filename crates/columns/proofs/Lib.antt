@@ -3,3 +3,4 @@ pub mod RowLaws
 pub mod View
 pub mod CellSteps
 pub mod ColumnSteps
+pub mod RowLoop

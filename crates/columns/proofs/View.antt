@@ -8,7 +8,7 @@ use Rattle.lists.specs.Loop.{loop}
 use Rattle.lists.proofs.LoopLaws.{loop-ind}
 use Rattle.lists.proofs.Words.{AllWords}
 use Rattle.permutation.proofs.State.{IsState}
-use Rattle.columns.specs.Settings.{Work}
+use Rattle.columns.specs.Columns.{Work}
 use Rattle.matrix.proofs.Apart.{cell}
 
 -- a set of cell numbers

@@ -1,4 +1,3 @@
 -- What Setup and Wandering do in one column.
-pub mod Settings
 pub mod Columns
 pub mod Bounds

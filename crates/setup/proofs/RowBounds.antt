@@ -3,7 +3,7 @@ use mathlib.Core.Path.{_≡_, sym, ap, subst, _∙_}
 use Prim.Native.Nat.{ℕ, _+_, _*_, _-_, _≤_}
 use native.Mathlib.Omega.{arith}
 use native.Mathlib.Nat.{add-mul}
-use Rattle.columns.specs.Bounds.{Earlier}
+use Rattle.columns.specs.Bounds.{Filling}
 pub use Rattle.columns.proofs.RowLaws.{row-before}
 use Rattle.setup_order.proofs.Windows.{row1-lt, prev1-lt}
 use Rattle.setup_order.specs.SetupOrder.{order}
@@ -17,10 +17,11 @@ rows-split R C h =
     let e = ap (λ (n : ℕ). n * C) whole in
     (sym e ∙ add-mul 3 (R - 3) C, e)
 
-pub earlier : (k C : ℕ) (o : Order) → o ≡ order k → Earlier C (rowsWith k o)
-earlier k C o e =
-    subst (λ (p : Order). Earlier C (rowsWith k p)) (sym e)
+pub filling : (k C n : ℕ) (o : Order) → o ≡ order k → 12 * ((3 + k) * C + C) ≤ n → Filling C (rowsWith k o) n
+filling k C n o e room =
+    subst (λ (p : Order). Filling C (rowsWith k p) n) (sym e)
     (record {
+      row0 = room;
       row1 = row-before _ (3 + k) C (row1-lt k);
       prev0 = row-before (2 + k) (3 + k) C (omega arith);
       prev1 = row-before _ (3 + k) C (prev1-lt k);

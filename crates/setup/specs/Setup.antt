@@ -1,20 +1,20 @@
 -- Setup: row 0 from the sponge, rows 1 and 2 from the row before, every further row from three rows.
 use Prim.Native.Nat.{ℕ, _+_, _-_}
 use Rattle.lists.specs.Loop.{loop}
+use Rattle.settings.specs.Settings.{Settings}
 use Rattle.setup_order.specs.SetupOrder.{order}
 use Rattle.setup_order.specs.declared.Order.{Order}
-use Rattle.columns.specs.Settings.{Settings, Work}
 use Rattle.columns.specs.declared.Rows.{Rows}
-use Rattle.columns.specs.Columns.{fillColumn, copyColumn, setupColumn}
+use Rattle.columns.specs.Columns.{Work, fillColumn, copyColumn, setupColumn}
 
-unfoldable pub fillRow : Settings → ℕ → Work → Work
-fillRow S C w = loop (fillColumn S C) C w
+unfoldable pub fillRow : Settings → Work → Work
+fillRow S w = loop (fillColumn S) (S .columns) w
 
-unfoldable pub copyRow : Settings → ℕ → ℕ → ℕ → Work → Work
-copyRow S C prev0 row0 w = loop (copyColumn S C prev0 row0) C w
+unfoldable pub copyRow : Settings → ℕ → ℕ → Work → Work
+copyRow S prev0 row0 w = loop (copyColumn S prev0 row0) (S .columns) w
 
-unfoldable pub setupRow : Settings → ℕ → Rows → Work → Work
-setupRow S C r w = loop (setupColumn S C r) C w
+unfoldable pub setupRow : Settings → Rows → Work → Work
+setupRow S r w = loop (setupColumn S r) (S .columns) w
 
 -- the rows of the step that fills row 3 + k, from the order of that row
 abbrev pub rowsWith : ℕ → Order → Rows
@@ -25,15 +25,9 @@ rowsWith k o = record {
   prev1 = record { 0 = o .prev1 };
 }
 
-unfoldable pub setupStep : Settings → ℕ → ℕ → Work → Work
-setupStep S C k w = setupRow S C (rowsWith k (order k)) w
-
 -- n rows from row 3 on
-unfoldable pub setupRows : Settings → ℕ → ℕ → Work → Work
-setupRows S C n w = loop (setupStep S C) n w
+unfoldable pub setupRows : Settings → ℕ → Work → Work
+setupRows S n w = loop (λ k. setupRow S (rowsWith k (order k))) n w
 
-unfoldable pub firstRows : Settings → ℕ → Work → Work
-firstRows S C w = copyRow S C 1 2 (copyRow S C 0 1 (fillRow S C w))
-
-unfoldable pub setup : Settings → ℕ → ℕ → Work → Work
-setup S R C w = setupRows S C (R - 3) (firstRows S C w)
+unfoldable pub setup : Settings → Work → Work
+setup S w = setupRows S (S .rows - 3) (copyRow S 1 2 (copyRow S 0 1 (fillRow S w)))

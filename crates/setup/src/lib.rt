@@ -1,27 +1,29 @@
 // Setup: every row of the matrix is written once, and rows before it are revisited.
 use columns::Rows;
-use columns::copy_column;
-use columns::fill_column;
-use columns::setup_column;
+use first_columns::copy_column;
+use first_columns::fill_column;
 use matrix::Row;
+use settings::Parameters;
+use setup_columns::setup_column;
 use setup_order::Order;
 ghost use mathlib.Core.Path.{_≡_};
 ghost use Prim.Native.Nat.{_+_, _*_, _-_, _≤_, _<_, _^_};
 ghost use lib.ListN.{length};
-ghost use Rattle.columns.specs.Bounds.{Earlier};
-ghost use Rattle.columns.specs.Settings.{profile, work};
+ghost use Rattle.settings.specs.Settings.{settings};
+ghost use Rattle.columns.specs.Bounds.{Filling};
+ghost use Rattle.columns.specs.Columns.{work};
 ghost use Rattle.setup_order.specs.SetupOrder.{order};
-ghost use Rattle.setup.specs.Setup.{fillRow, copyRow, setupRow, setupStep, setupRows, firstRows, setup};
+ghost use Rattle.setup.specs.Setup.{fillRow, copyRow, setupRow, rowsWith, setupRows, setup};
 
 // Row 0. Each row function answers how many reduced calls it made.
-fn fill_row(s: &mut [u64; 16], m: &mut [u64], columns: usize) -> u64
-    requires { ⌜ 12 * columns ≤ length (now m) ⌝ }
-    ensures { λ r. ⌜ (r ≡ columns) × (work (now (s .exit)) (now (m .exit)) ≡ fillRow profile columns (work (now (s .entry)) (now (m .entry)))) ⌝ }
+fn fill_row(s: &mut [u64; 16], m: &mut [u64], p: Parameters) -> u64
+    requires { ⌜ 12 * p .columns ≤ length (now m) ⌝ }
+    ensures { λ r. ⌜ (r ≡ p .columns) × (work (now (s .exit)) (now (m .exit)) ≡ fillRow (settings p) (work (now (s .entry)) (now (m .entry)))) ⌝ }
 {
     let mut calls: u64 = 0;
     let mut col = 0;
-    while col < columns {
-        fill_column(s, m, col, columns);
+    while col < p.columns {
+        fill_column(s, m, col, p);
         calls += 1;
         col += 1;
     }
@@ -29,14 +31,14 @@ fn fill_row(s: &mut [u64; 16], m: &mut [u64], columns: usize) -> u64
 }
 
 // Row 1 or 2.
-fn copy_row(s: &mut [u64; 16], m: &mut [u64], prev0: Row, row0: Row, columns: usize) -> u64
-    requires { ⌜ (prev0 .0 * columns + columns ≤ row0 .0 * columns) × (12 * (row0 .0 * columns + columns) ≤ length (now m)) ⌝ }
-    ensures { λ r. ⌜ (r ≡ columns) × (work (now (s .exit)) (now (m .exit)) ≡ copyRow profile columns (prev0 .0) (row0 .0) (work (now (s .entry)) (now (m .entry)))) ⌝ }
+fn copy_row(s: &mut [u64; 16], m: &mut [u64], prev0: Row, row0: Row, p: Parameters) -> u64
+    requires { ⌜ (prev0 .0 * p .columns + p .columns ≤ row0 .0 * p .columns) × (12 * (row0 .0 * p .columns + p .columns) ≤ length (now m)) ⌝ }
+    ensures { λ r. ⌜ (r ≡ p .columns) × (work (now (s .exit)) (now (m .exit)) ≡ copyRow (settings p) (prev0 .0) (row0 .0) (work (now (s .entry)) (now (m .entry)))) ⌝ }
 {
     let mut calls: u64 = 0;
     let mut col = 0;
-    while col < columns {
-        copy_column(s, m, prev0, row0, col, columns);
+    while col < p.columns {
+        copy_column(s, m, prev0, row0, col, p);
         calls += 1;
         col += 1;
     }
@@ -44,14 +46,14 @@ fn copy_row(s: &mut [u64; 16], m: &mut [u64], prev0: Row, row0: Row, columns: us
 }
 
 // A row from 3 on.
-fn setup_row(s: &mut [u64; 16], m: &mut [u64], rows: Rows, columns: usize) -> u64
-    requires { ⌜ (12 * (rows .row0 .0 * columns + columns) ≤ length (now m)) × Earlier columns rows ⌝ }
-    ensures { λ r. ⌜ (r ≡ columns) × (work (now (s .exit)) (now (m .exit)) ≡ setupRow profile columns rows (work (now (s .entry)) (now (m .entry)))) ⌝ }
+fn setup_row(s: &mut [u64; 16], m: &mut [u64], rows: Rows, p: Parameters) -> u64
+    requires { ⌜ Filling (p .columns) rows (length (now m)) ⌝ }
+    ensures { λ r. ⌜ (r ≡ p .columns) × (work (now (s .exit)) (now (m .exit)) ≡ setupRow (settings p) rows (work (now (s .entry)) (now (m .entry)))) ⌝ }
 {
     let mut calls: u64 = 0;
     let mut col = 0;
-    while col < columns {
-        setup_column(s, m, rows, col, columns);
+    while col < p.columns {
+        setup_column(s, m, rows, col, p);
         calls += 1;
         col += 1;
     }
@@ -65,9 +67,9 @@ pub struct SetUp {
 }
 
 // Row 3 + k, with its place in the order.
-fn setup_step(s: &mut [u64; 16], m: &mut [u64], k: usize, o: Order, columns: usize) -> u64
-    requires { ⌜ (o ≡ order k) × (3 + k ≤ 2 ^ 32) × (12 * ((3 + k) * columns + columns) ≤ length (now m)) ⌝ }
-    ensures { λ r. ⌜ (r ≡ columns) × (work (now (s .exit)) (now (m .exit)) ≡ setupStep profile columns k (work (now (s .entry)) (now (m .entry)))) ⌝ }
+fn setup_step(s: &mut [u64; 16], m: &mut [u64], k: usize, o: Order, p: Parameters) -> u64
+    requires { ⌜ (o ≡ order k) × (3 + k ≤ 2 ^ 32) × (12 * ((3 + k) * p .columns + p .columns) ≤ length (now m)) ⌝ }
+    ensures { λ r. ⌜ (r ≡ p .columns) × (work (now (s .exit)) (now (m .exit)) ≡ setupRow (settings p) (rowsWith k (order k)) (work (now (s .entry)) (now (m .entry)))) ⌝ }
 {
     let rows = Rows {
         row0: Row(3 + k),
@@ -75,14 +77,14 @@ fn setup_step(s: &mut [u64; 16], m: &mut [u64], k: usize, o: Order, columns: usi
         prev0: Row(2 + k),
         prev1: Row(o.prev1),
     };
-    setup_row(s, m, rows, columns)
+    setup_row(s, m, rows, p)
 }
 
 // The rows from 3 on, of which there are n. Row 3 is called for by itself, so that the compiler leaves a row a function of its
 // own, which is faster.
-fn setup_rows(s: &mut [u64; 16], m: &mut [u64], n: usize, columns: usize) -> SetUp
-    requires { ⌜ (3 + n ≤ 2 ^ 32) × (12 * ((3 + n) * columns) ≤ length (now m)) ⌝ }
-    ensures { λ r. ⌜ (r .prev1 ≡ order n .prev1) × (r .calls ≡ n * columns) × (work (now (s .exit)) (now (m .exit)) ≡ setupRows profile columns n (work (now (s .entry)) (now (m .entry)))) ⌝ }
+fn setup_rows(s: &mut [u64; 16], m: &mut [u64], n: usize, p: Parameters) -> SetUp
+    requires { ⌜ (3 + n ≤ 2 ^ 32) × (12 * ((3 + n) * p .columns) ≤ length (now m)) ⌝ }
+    ensures { λ r. ⌜ (r .prev1 ≡ order n .prev1) × (r .calls ≡ n * p .columns) × (work (now (s .exit)) (now (m .exit)) ≡ setupRows (settings p) n (work (now (s .entry)) (now (m .entry)))) ⌝ }
 {
     let first = Order::first();
     if n == 0 {
@@ -91,11 +93,11 @@ fn setup_rows(s: &mut [u64; 16], m: &mut [u64], n: usize, columns: usize) -> Set
             calls: 0,
         };
     }
-    let mut calls = setup_step(s, m, 0, first, columns);
+    let mut calls = setup_step(s, m, 0, first, p);
     let mut o = first.next();
     let mut k = 1;
     while k < n {
-        calls += setup_step(s, m, k, o, columns);
+        calls += setup_step(s, m, k, o, p);
         o = o.next();
         k += 1;
     }
@@ -106,23 +108,23 @@ fn setup_rows(s: &mut [u64; 16], m: &mut [u64], n: usize, columns: usize) -> Set
 }
 
 // Rows 0 to 2.
-fn first_rows(s: &mut [u64; 16], m: &mut [u64], columns: usize) -> u64
-    requires { ⌜ 12 * (3 * columns) ≤ length (now m) ⌝ }
-    ensures { λ r. ⌜ (r ≡ 3 * columns) × (work (now (s .exit)) (now (m .exit)) ≡ firstRows profile columns (work (now (s .entry)) (now (m .entry)))) ⌝ }
+fn first_rows(s: &mut [u64; 16], m: &mut [u64], p: Parameters) -> u64
+    requires { ⌜ 12 * (3 * p .columns) ≤ length (now m) ⌝ }
+    ensures { λ r. ⌜ (r ≡ 3 * p .columns) × (work (now (s .exit)) (now (m .exit)) ≡ copyRow (settings p) 1 2 (copyRow (settings p) 0 1 (fillRow (settings p) (work (now (s .entry)) (now (m .entry)))))) ⌝ }
 {
-    let first = fill_row(s, m, columns);
-    let second = copy_row(s, m, Row(0), Row(1), columns);
-    let third = copy_row(s, m, Row(1), Row(2), columns);
+    let first = fill_row(s, m, p);
+    let second = copy_row(s, m, Row(0), Row(1), p);
+    let third = copy_row(s, m, Row(1), Row(2), p);
     first + second + third
 }
 
 // All of Setup, over R rows and C columns.
-pub fn set_up(s: &mut [u64; 16], m: &mut [u64], rows: usize, columns: usize) -> SetUp
-    requires { ⌜ (3 ≤ rows) × (rows ≤ 2 ^ 32) × (12 * (rows * columns) ≤ length (now m)) ⌝ }
-    ensures { λ r. ⌜ (r .prev1 ≡ order (rows - 3) .prev1) × (r .calls ≡ rows * columns) × (work (now (s .exit)) (now (m .exit)) ≡ setup profile rows columns (work (now (s .entry)) (now (m .entry)))) ⌝ }
+pub fn set_up(s: &mut [u64; 16], m: &mut [u64], p: Parameters) -> SetUp
+    requires { ⌜ (3 ≤ p .rows) × (p .rows ≤ 2 ^ 32) × (12 * (p .rows * p .columns) ≤ length (now m)) ⌝ }
+    ensures { λ r. ⌜ (r .prev1 ≡ order (p .rows - 3) .prev1) × (r .calls ≡ p .rows * p .columns) × (work (now (s .exit)) (now (m .exit)) ≡ setup (settings p) (work (now (s .entry)) (now (m .entry)))) ⌝ }
 {
-    let first = first_rows(s, m, columns);
-    let rest = setup_rows(s, m, rows - 3, columns);
+    let first = first_rows(s, m, p);
+    let rest = setup_rows(s, m, p.rows - 3, p);
     SetUp {
         prev1: rest.prev1,
         calls: first + rest.calls,

@@ -3,12 +3,11 @@ use mathlib.Core.Path.{refl}
 use Rattle.derivation.specs.Answers.{checked}
 use Rattle.derivation.proofs.answer_check.Statement.{statement}
 use Rattle.derivation.proofs.answer_check.Tie as tie
-use Rattle.derivation.proofs.answer_check.Reads as reads
-use Rattle.derivation.proofs.answer_check.Lts as lts
 
 returns : tie.Need-returns
 unfolding checked
 returns c = refl
 
 pub answer-check-spec : {M : Type 1} → statement M
-answer-check-spec = tie.close (tie.spec returns)
+answer-check-spec =
+    tie.close (tie.spec returns)

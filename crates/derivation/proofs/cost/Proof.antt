@@ -1,21 +1,10 @@
 -- `cost` meets its contract: a refusal, or the costs. Assumes nothing.
+use native.Mathlib.Omega.{arith}
 use mathlib.Core.Path.{sym, _∙_}
 use Rattle.refusals.proofs.Accepted.{cost-bounds}
 use Rattle.derivation.proofs.Answering.{cost-no, cost-yes}
-use borrow.Author.Needs.{needs}
 use Rattle.derivation.proofs.cost.Statement.{statement}
 use Rattle.derivation.proofs.cost.Tie as tie
-use Rattle.derivation.proofs.cost.Reads as reads
-use Rattle.derivation.proofs.cost.Lts as lts
-use Rattle.derivation.proofs.cost_accepted.Reads as cost-accepted-reads
-use Rattle.derivation.proofs.refused.Reads as refused-reads
-use Rattle.refusals.proofs.cost_refusal.Reads as cost-refusal-reads
-
-cost-refusal-requires : tie.Need-cost-refusal-requires
-cost-refusal-requires c κs = search needs
-
-refused-requires : tie.Need-refused-requires
-refused-requires c κs = search needs
 
 returns : tie.Need-returns
 returns c =
@@ -34,5 +23,4 @@ returns-2 c =
 
 pub cost-spec : {M : Type 1} → statement M
 cost-spec =
-    tie.close
-    (tie.spec cost-refusal-requires refused-requires returns cost-accepted-requires returns-2)
+    tie.close (tie.spec (omega arith) (omega arith) returns cost-accepted-requires returns-2)

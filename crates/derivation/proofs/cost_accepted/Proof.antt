@@ -5,20 +5,8 @@ use Rattle.refusals.proofs.Accepted.{cells-most}
 use Rattle.derivation.specs.Answers.{spentOn, costs}
 use Rattle.derivation.specs.Cost.{fullCost}
 use Rattle.derivation.proofs.Answering.{full-most, reduced-most}
-use borrow.Author.Needs.{needs}
 use Rattle.derivation.proofs.cost_accepted.Statement.{statement}
 use Rattle.derivation.proofs.cost_accepted.Tie as tie
-use Rattle.derivation.proofs.cost_accepted.Reads as reads
-use Rattle.derivation.proofs.cost_accepted.Lts as lts
-use Rattle.derivation.proofs.spent.Reads as spent-reads
-use Rattle.input.proofs.block_count.Reads as block-count-reads
-use Rattle.key.proofs.piece_count.Reads as piece-count-reads
-
-block-count-requires : tie.Need-block-count-requires
-block-count-requires c κs = search needs
-
-piece-count-requires : tie.Need-piece-count-requires
-piece-count-requires c κs = search needs
 
 add-full : tie.Need-add-full
 unfolding fullCost
@@ -32,9 +20,6 @@ mul-reduced c =
     let bounds = c .before .before .pre in
     let a = c .before .before .args in
     omega (arith, cells-most (a .rows) (a .columns) (bounds .rows-most) (bounds .columns-most))
-
-add-reduced : tie.Need-add-reduced
-add-reduced c = search needs
 
 mul-reduced-2 : tie.Need-mul-reduced-2
 mul-reduced-2 c =
@@ -55,13 +40,4 @@ returns c = cc
 
 pub cost-accepted-spec : {M : Type 1} → statement M
 cost-accepted-spec =
-    tie.close
-    (tie.spec
-    block-count-requires
-    piece-count-requires
-    add-full
-    mul-reduced
-    add-reduced
-    mul-reduced-2
-    spent-requires
-    returns)
+    tie.close (tie.spec (omega arith) (omega arith) add-full mul-reduced (omega arith) mul-reduced-2 spent-requires returns)

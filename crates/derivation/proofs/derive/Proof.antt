@@ -1,23 +1,12 @@
 -- `derive` meets its contract: a refusal that touches nothing, or the derivation. Assumes nothing.
+use native.Mathlib.Omega.{arith}
 use mathlib.Core.Path.{sym, _∙_}
 use denote.Ref.{now}
 use lib.ListN.{length}
 use Rattle.refusals.proofs.Accepted.{plain-bounds}
 use Rattle.derivation.proofs.Answering.{answered-yes, answered-no, cost-no, cost-yes}
-use borrow.Author.Needs.{needs}
 use Rattle.derivation.proofs.derive.Statement.{statement}
 use Rattle.derivation.proofs.derive.Tie as tie
-use Rattle.derivation.proofs.derive.Reads as reads
-use Rattle.derivation.proofs.derive.Lts as lts
-use Rattle.derivation.proofs.derive_accepted.Reads as derive-accepted-reads
-use Rattle.derivation.proofs.refused.Reads as refused-reads
-use Rattle.refusals.proofs.plain_refusal.Reads as plain-refusal-reads
-
-plain-refusal-requires : tie.Need-plain-refusal-requires
-plain-refusal-requires c κs = search needs
-
-refused-requires : tie.Need-refused-requires
-refused-requires c κs = search needs
 
 returns : tie.Need-returns
 returns c =
@@ -30,12 +19,6 @@ derive-accepted-requires c κs =
     let a = c .before .before .before .before .before .before .before .before .args in
     plain-bounds (length (now (a .key))) (length (now (a .password))) (length (now (a .salt))) (a .time) (a .rows) (a .columns) (length (now (a .matrix))) (sym (c .before .before .before .plain-refusal .ensures) ∙ c .before .before .if1 .left)
 
-same-length : tie.Need-same-length
-same-length c = search needs
-
-same-length-2 : tie.Need-same-length-2
-same-length-2 c = search needs
-
 returns-2 : tie.Need-returns-2
 returns-2 c =
     let a = c .before .before .before .before .before .before .before .before .before .before .before .before .before .args in
@@ -45,12 +28,4 @@ returns-2 c =
 
 pub derive-spec : {M : Type 1} → statement M
 derive-spec =
-    tie.close
-    (tie.spec
-    plain-refusal-requires
-    refused-requires
-    returns
-    derive-accepted-requires
-    same-length
-    same-length-2
-    returns-2)
+    tie.close (tie.spec (omega arith) (omega arith) returns derive-accepted-requires (omega arith) (omega arith) returns-2)

@@ -6,24 +6,8 @@ use lib.ListN.{length}
 use Rattle.derivation.specs.Answers.{spentOn, costs}
 use Rattle.derivation.proofs.Answering.{full-calls, full-most, reduced-most}
 use Rattle.derivation.proofs.Ends.{key-end, matrix-end}
-use borrow.Author.Needs.{needs}
 use Rattle.derivation.proofs.derive_accepted.Statement.{statement}
 use Rattle.derivation.proofs.derive_accepted.Tie as tie
-use Rattle.derivation.proofs.derive_accepted.Reads as reads
-use Rattle.derivation.proofs.derive_accepted.Lts as lts
-use Rattle.derivation.proofs.run_plain.Reads as run-plain-reads
-use Rattle.derivation.proofs.spent.Reads as spent-reads
-use Rattle.key.proofs.squeeze.Reads as squeeze-reads
-use Rattle.sponge.proofs.profile.Profile.start.Reads as start-reads
-
-start-requires : tie.Need-start-requires
-start-requires c κs = search needs
-
-run-plain-requires : tie.Need-run-plain-requires
-run-plain-requires c κs = search needs
-
-squeeze-requires : tie.Need-squeeze-requires
-squeeze-requires c κs = search needs
 
 add-spent : tie.Need-add-spent
 add-spent c =
@@ -45,12 +29,6 @@ spent-requires c κs =
     let full = full-calls (length (now (a .key))) (length (now (a .password))) (length (now (a .salt))) _ _ (bounds .key-pos) (r .ensures .0) (q .ensures .2) in
     omega (arith, r .ensures .1, full-most (length (now (a .key))) (length (now (a .password))) (length (now (a .salt))) (a .time) (a .rows) (a .columns) bounds, reduced-most (length (now (a .key))) (length (now (a .password))) (length (now (a .salt))) (a .time) (a .rows) (a .columns) bounds)
 
-same-length : tie.Need-same-length
-same-length c = search needs
-
-same-length-2 : tie.Need-same-length-2
-same-length-2 c = search needs
-
 returns : tie.Need-returns
 unfolding costs
 returns c =
@@ -68,13 +46,4 @@ returns c =
 
 pub derive-accepted-spec : {M : Type 1} → statement M
 derive-accepted-spec =
-    tie.close
-    (tie.spec
-    start-requires
-    run-plain-requires
-    squeeze-requires
-    add-spent
-    spent-requires
-    same-length
-    same-length-2
-    returns)
+    tie.close (tie.spec (omega arith) (omega arith) (omega arith) add-spent spent-requires (omega arith) (omega arith) returns)

@@ -3,12 +3,11 @@ use mathlib.Core.Path.{refl}
 use Rattle.derivation.specs.Answers.{noCosts}
 use Rattle.derivation.proofs.refused.Statement.{statement}
 use Rattle.derivation.proofs.refused.Tie as tie
-use Rattle.derivation.proofs.refused.Reads as reads
-use Rattle.derivation.proofs.refused.Lts as lts
 
 returns : tie.Need-returns
 unfolding noCosts
 returns c = refl
 
 pub refused-spec : {M : Type 1} → statement M
-refused-spec = tie.close (tie.spec returns)
+refused-spec =
+    tie.close (tie.spec returns)

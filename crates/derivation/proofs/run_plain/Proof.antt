@@ -7,19 +7,8 @@ use Rattle.columns.specs.Settings.{profile}
 use Rattle.columns.proofs.RowLaws.{row-before}
 use Rattle.wandering.specs.Visits.{Walk}
 use Rattle.derivation.proofs.Ends.{final-state}
-use borrow.Author.Needs.{needs}
 use Rattle.derivation.proofs.run_plain.Statement.{statement}
 use Rattle.derivation.proofs.run_plain.Tie as tie
-use Rattle.derivation.proofs.run_plain.Reads as reads
-use Rattle.derivation.proofs.run_plain.Lts as lts
-use Rattle.derivation.proofs.absorb_last.Reads as absorb-last-reads
-use Rattle.derivation.proofs.run.Reads as run-reads
-
-slice-aggregate-run : tie.Need-slice-aggregate-run
-slice-aggregate-run c = search needs
-
-run-requires : tie.Need-run-requires
-run-requires c κs = search needs
 
 absorb-last-requires : tie.Need-absorb-last-requires
 absorb-last-requires c κs =
@@ -34,9 +23,6 @@ add-t20 c =
     let start = c .before .before .before .before .before .before .before .before .before .before .before .before .before .before in
     omega (arith, c .before .before .before .before .before .before .before .run .ensures .0, start .pre)
 
-same-length : tie.Need-same-length
-same-length c = search needs
-
 returns : tie.Need-returns
 returns c =
     let r = c .before .before .before .before .before .before .before .run in
@@ -49,5 +35,4 @@ returns c =
 
 pub run-plain-spec : {M : Type 1} → statement M
 run-plain-spec =
-    tie.close
-    (tie.spec slice-aggregate-run run-requires absorb-last-requires add-t20 same-length returns)
+    tie.close (tie.spec (omega arith) (omega arith) absorb-last-requires add-t20 (omega arith) returns)

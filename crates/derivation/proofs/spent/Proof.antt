@@ -1,20 +1,12 @@
 use native.Mathlib.Nat.{one-mul}
+use native.Mathlib.Omega.{arith}
 use Rattle.derivation.specs.declared.Costs.{Costs}
 use Prim.Native.Nat.{ℕ, _+_, _*_}
 -- `spent` meets its contract. Assumes nothing.
 use mathlib.Core.Path.{ap, sym}
 use Rattle.derivation.specs.Answers.{spentOn}
-use borrow.Author.Needs.{needs}
 use Rattle.derivation.proofs.spent.Statement.{statement}
 use Rattle.derivation.proofs.spent.Tie as tie
-use Rattle.derivation.proofs.spent.Reads as reads
-use Rattle.derivation.proofs.spent.Lts as lts
-
-mul-t3 : tie.Need-mul-t3
-mul-t3 c = search needs
-
-add-t4 : tie.Need-add-t4
-add-t4 c = search needs
 
 abbrev spentWith : ℕ → ℕ → ℕ → Costs
 spentWith f r n = record { refusal = 0; full = f; reduced = r; rounds = n }
@@ -27,4 +19,5 @@ returns c =
     ap (λ (n : ℕ). spentWith f r (12 * f + n)) (sym (one-mul r))
 
 pub spent-spec : {M : Type 1} → statement M
-spent-spec = tie.close (tie.spec mul-t3 add-t4 returns)
+spent-spec =
+    tie.close (tie.spec (omega arith) (omega arith) returns)

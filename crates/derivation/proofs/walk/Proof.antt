@@ -12,19 +12,8 @@ use Rattle.wandering.specs.Encoding.{encode}
 use Rattle.refusals.proofs.Accepted.{visits-most}
 use Rattle.derivation.proofs.Sizes.{product-most, calls-sum}
 use Rattle.derivation.proofs.Ends.{walk-end, walk-visits}
-use borrow.Author.Needs.{needs}
 use Rattle.derivation.proofs.walk.Statement.{statement}
 use Rattle.derivation.proofs.walk.Tie as tie
-use Rattle.derivation.proofs.walk.Reads as reads
-use Rattle.derivation.proofs.walk.Lts as lts
-use Rattle.setup.proofs.set_up.Reads as set-up-reads
-use Rattle.wandering.proofs.wander.Reads as wander-reads
-
-set-up-requires : tie.Need-set-up-requires
-set-up-requires c κs = search needs
-
-sub-t17 : tie.Need-sub-t17
-sub-t17 c = search needs
 
 mul-wander : tie.Need-mul-wander
 mul-wander c =
@@ -56,12 +45,6 @@ add-t23 c =
     omega
     (arith, up .ensures .1, v .ensures .0, product-most (a .rows) (a .columns) 16384 256 (start .pre .1) (start .pre .2), product-most (a .rows * a .time) (a .columns) 4177920 256 n (start .pre .2))
 
-same-length : tie.Need-same-length
-same-length c = search needs
-
-same-length-2 : tie.Need-same-length-2
-same-length-2 c = search needs
-
 returns : tie.Need-returns
 returns c =
     let start = c .before .before .before .before .before .before .before .before .before .before .before .before .before .before .before .before .before .before .before in
@@ -78,13 +61,4 @@ returns c =
 
 pub walk-spec : {M : Type 1} → statement M
 walk-spec =
-    tie.close
-    (tie.spec
-    set-up-requires
-    sub-t17
-    mul-wander
-    wander-requires
-    add-t23
-    same-length
-    same-length-2
-    returns)
+    tie.close (tie.spec (omega arith) (omega arith) mul-wander wander-requires add-t23 (omega arith) (omega arith) returns)

@@ -1,4 +1,5 @@
 -- `lyra2_check` meets its contract: the answer, taken apart. Assumes nothing.
+use native.Mathlib.Omega.{arith}
 use mathlib.Core.Path.{refl, sym, ap, _∙_}
 use Prim.Native.Nat.{ℕ}
 use mathlib.Core.List.{[], _∷_}
@@ -9,26 +10,8 @@ use Rattle.derivation.specs.declared.Costs.{Costs}
 use Rattle.derivation.specs.declared.Checked.{Checked}
 use Rattle.derivation.proofs.Answering.{answered-as, answered-yes, answered-inner, cost-refusal-is, check-split}
 use Rattle.derivation_export.specs.Counts.{stored, costsStored, flag}
-use borrow.Author.Needs.{needs}
 use Rattle.derivation_export.proofs.lyra2_check.Statement.{statement}
 use Rattle.derivation_export.proofs.lyra2_check.Tie as tie
-use Rattle.derivation_export.proofs.lyra2_check.Reads as reads
-use Rattle.derivation_export.proofs.lyra2_check.Lts as lts
-use Rattle.derivation.proofs.check.Reads as check-reads
-use Rattle.derivation_export.proofs.store_counts.Reads as store-counts-reads
-use Rattle.derivation_export.proofs.store_flag.Reads as store-flag-reads
-
-check-requires : tie.Need-check-requires
-check-requires c κs = search needs
-
-store-flag-requires : tie.Need-store-flag-requires
-store-flag-requires c κs = search needs
-
-store-counts-requires : tie.Need-store-counts-requires
-store-counts-requires c κs = search needs
-
-same-length : tie.Need-same-length
-same-length c = search needs
 
 returns : tie.Need-returns
 unfolding checked
@@ -51,5 +34,4 @@ returns c =
 
 pub lyra2-check-spec : {M : Type 1} → statement M
 lyra2-check-spec =
-    tie.close
-    (tie.spec check-requires store-flag-requires store-counts-requires same-length returns)
+    tie.close (tie.spec (omega arith) (omega arith) (omega arith) (omega arith) returns)

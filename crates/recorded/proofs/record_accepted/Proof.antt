@@ -14,23 +14,8 @@ use Rattle.derivation.specs.Answers.{spentOn, costs}
 use Rattle.derivation.proofs.Answering.{full-calls, full-most, reduced-most}
 use Rattle.derivation.proofs.Ends.{final-state, input-end, key-end, matrix-end, visits-end}
 use Rattle.recorded.specs.Recording.{withState, endState, endRecord}
-use borrow.Author.Needs.{needs}
 use Rattle.recorded.proofs.record_accepted.Statement.{statement}
 use Rattle.recorded.proofs.record_accepted.Tie as tie
-use Rattle.recorded.proofs.record_accepted.Reads as reads
-use Rattle.recorded.proofs.record_accepted.Lts as lts
-use Rattle.derivation.proofs.absorb_last.Reads as absorb-last-reads
-use Rattle.derivation.proofs.run.Reads as run-reads
-use Rattle.derivation.proofs.spent.Reads as spent-reads
-use Rattle.key.proofs.squeeze.Reads as squeeze-reads
-use Rattle.recorded.proofs.with_state.Reads as with-state-reads
-use Rattle.sponge.proofs.profile.Profile.start.Reads as start-reads
-
-start-requires : tie.Need-start-requires
-start-requires c κs = search needs
-
-run-requires : tie.Need-run-requires
-run-requires c κs = search needs
 
 absorb-last-requires : tie.Need-absorb-last-requires
 absorb-last-requires c κs =
@@ -38,9 +23,6 @@ absorb-last-requires c κs =
     let a = start .args in
     let r = c .before .before .before .before .before .before .run in
     (start .pre .plain .costs .columns-pos, omega (arith, r .kept, row-before (r .result .row0 .0) (a .rows) (a .columns) (r .ensures .2), start .pre .plain .room))
-
-squeeze-requires : tie.Need-squeeze-requires
-squeeze-requires c κs = search needs
 
 add-spent : tie.Need-add-spent
 add-spent c =
@@ -72,18 +54,6 @@ spent-requires c κs =
     let full = full-calls (length (now (a .key))) (length (now (a .password))) (length (now (a .salt))) _ _ (bounds .key-pos) (ap (λ (n : ℕ). n + 1) (r .ensures .0)) (q .ensures .2) in
     omega (arith, r .ensures .1, full-most (length (now (a .key))) (length (now (a .password))) (length (now (a .salt))) (a .time) (a .rows) (a .columns) bounds, reduced-most (length (now (a .key))) (length (now (a .password))) (length (now (a .salt))) (a .time) (a .rows) (a .columns) bounds)
 
-with-state-requires : tie.Need-with-state-requires
-with-state-requires c κs = search needs
-
-same-length : tie.Need-same-length
-same-length c = search needs
-
-same-length-2 : tie.Need-same-length-2
-same-length-2 c = search needs
-
-same-length-3 : tie.Need-same-length-3
-same-length-3 c = search needs
-
 returns : tie.Need-returns
 unfolding costs endState endRecord
 returns c =
@@ -106,16 +76,5 @@ returns c =
 pub record-accepted-spec : {M : Type 1} → statement M
 record-accepted-spec =
     tie.close
-    (tie.spec
-    start-requires
-    run-requires
-    absorb-last-requires
-    squeeze-requires
-    add-spent
-    add-spent-2
-    spent-requires
-    with-state-requires
-    same-length
-    same-length-2
-    same-length-3
-    returns)
+    (tie.spec (omega arith) (omega arith) absorb-last-requires (omega arith) add-spent add-spent-2 spent-requires (omega arith)
+    (omega arith) (omega arith) (omega arith) returns)

@@ -3,12 +3,11 @@ use mathlib.Core.Path.{refl}
 use Rattle.recorded.specs.Recording.{withState}
 use Rattle.recorded.proofs.with_state.Statement.{statement}
 use Rattle.recorded.proofs.with_state.Tie as tie
-use Rattle.recorded.proofs.with_state.Reads as reads
-use Rattle.recorded.proofs.with_state.Lts as lts
 
 returns : tie.Need-returns
 unfolding withState
 returns c = refl
 
 pub with-state-spec : {M : Type 1} → statement M
-with-state-spec = tie.close (tie.spec returns)
+with-state-spec =
+    tie.close (tie.spec returns)

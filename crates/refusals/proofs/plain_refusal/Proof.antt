@@ -1,18 +1,10 @@
 -- `plain_refusal` meets its contract: the checks of the cost question, then that of the matrix. Assumes nothing.
 use mathlib.Core.Path.{sym, _∙_}
 use native.Mathlib.Omega.{arith}
-use borrow.Author.Needs.{needs}
 use Rattle.refusals.specs.Checks.{costChecks, plainChecks, matrixCheck}
 use Rattle.refusals.proofs.Accepted.{more-refuse, more-pass, cost-bounds, cost-numbered, cells-most}
 use Rattle.refusals.proofs.plain_refusal.Statement.{statement}
 use Rattle.refusals.proofs.plain_refusal.Tie as tie
-use Rattle.refusals.proofs.plain_refusal.Reads as reads
-use Rattle.refusals.proofs.plain_refusal.Lts as lts
-use Rattle.refusals.proofs.cost_refusal.Reads as cost-refusal-reads
-use Rattle.refusals.proofs.first_of.Reads as first-of-reads
-
-cost-refusal-requires : tie.Need-cost-refusal-requires
-cost-refusal-requires c κs = search needs
 
 returns : tie.Need-returns
 unfolding plainChecks
@@ -32,9 +24,6 @@ mul-first-of-2 c =
     let bounds = cost-bounds (a .key) (a .password) (a .salt) (a .time) (a .rows) (a .columns) (sym (c .before .cost-refusal .ensures) ∙ c .if1 .left) in
     omega (arith, cells-most (a .rows) (a .columns) (bounds .rows-most) (bounds .columns-most))
 
-first-of-requires : tie.Need-first-of-requires
-first-of-requires c κs = search needs
-
 returns-2 : tie.Need-returns-2
 unfolding plainChecks
 returns-2 c =
@@ -43,11 +32,4 @@ returns-2 c =
 
 pub plain-refusal-spec : {M : Type 1} → statement M
 plain-refusal-spec =
-    tie.close
-    (tie.spec
-    cost-refusal-requires
-    returns
-    mul-first-of
-    mul-first-of-2
-    first-of-requires
-    returns-2)
+    tie.close (tie.spec (omega arith) returns mul-first-of mul-first-of-2 (omega arith) returns-2)

@@ -4,19 +4,10 @@ use mathlib.Core.Bool.{cond}
 use Prim.Native.Nat.{ℕ}
 use lib.Dec.{ltb}
 use native.Mathlib.Omega.{arith}
-use borrow.Author.Needs.{needs}
 use Rattle.refusals.specs.Checks.{plainChecks, recordedChecks, recordCheck}
 use Rattle.refusals.proofs.Accepted.{more-refuse, more-pass, plain-bounds, plain-numbered, record-most, visits-most}
 use Rattle.refusals.proofs.recorded_refusal.Statement.{statement}
 use Rattle.refusals.proofs.recorded_refusal.Tie as tie
-use Rattle.refusals.proofs.recorded_refusal.Reads as reads
-use Rattle.refusals.proofs.recorded_refusal.Lts as lts
-use Rattle.refusals.proofs.first_of.Reads as first-of-reads
-use Rattle.refusals.proofs.plain_refusal.Reads as plain-refusal-reads
-use Rattle.refusals.proofs.record_words.Reads as record-words-reads
-
-plain-refusal-requires : tie.Need-plain-refusal-requires
-plain-refusal-requires c κs = search needs
 
 returns : tie.Need-returns
 unfolding recordedChecks
@@ -37,9 +28,6 @@ record-words-requires c κs =
     let bounds = plain-bounds (a .key) (a .password) (a .salt) (a .time) (a .rows) (a .columns) (a .matrix) (sym (c .before .plain-refusal .ensures) ∙ c .if1 .left) .costs in
     (bounds .columns-most, omega (arith, record-most (a .time) (a .rows) (a .columns) (bounds .time-most) (bounds .rows-most) (bounds .columns-most)))
 
-first-of-requires : tie.Need-first-of-requires
-first-of-requires c κs = search needs
-
 returns-2 : tie.Need-returns-2
 unfolding recordedChecks
 returns-2 c =
@@ -49,11 +37,4 @@ returns-2 c =
 
 pub recorded-refusal-spec : {M : Type 1} → statement M
 recorded-refusal-spec =
-    tie.close
-    (tie.spec
-    plain-refusal-requires
-    returns
-    mul-record-words
-    record-words-requires
-    first-of-requires
-    returns-2)
+    tie.close (tie.spec (omega arith) returns mul-record-words record-words-requires (omega arith) returns-2)

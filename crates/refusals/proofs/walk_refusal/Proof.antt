@@ -5,16 +5,8 @@ use mathlib.Core.Path.{refl, sym, _∙_}
 use native.Mathlib.Omega.{arith}
 use Rattle.refusals.specs.Checks.{first, walkChecks, rowsCheck, rowCheck}
 use Rattle.refusals.proofs.Accepted.{first-cons, first-refused, inside}
-use borrow.Author.Needs.{needs}
 use Rattle.refusals.proofs.walk_refusal.Statement.{statement}
 use Rattle.refusals.proofs.walk_refusal.Tie as tie
-use Rattle.refusals.proofs.walk_refusal.Reads as reads
-use Rattle.refusals.proofs.walk_refusal.Lts as lts
-use Rattle.refusals.proofs.first_of.Reads as first-of-reads
-use Rattle.refusals.proofs.outside.Reads as outside-reads
-
-outside-requires : tie.Need-outside-requires
-outside-requires c κs = search needs
 
 returns : tie.Need-returns
 unfolding walkChecks
@@ -27,12 +19,6 @@ sub-outside c =
     let bounds = inside 3 16384 (c .before .before .args .rows) (sym (c .before .outside .ensures) ∙ c .if1 .left) in
     omega arith
 
-outside-requires-2 : tie.Need-outside-requires-2
-outside-requires-2 c κs = search needs
-
-first-of-requires : tie.Need-first-of-requires
-first-of-requires c κs = search needs
-
 returns-2 : tie.Need-returns-2
 unfolding first walkChecks
 returns-2 c =
@@ -44,5 +30,4 @@ returns-2 c =
 
 pub walk-refusal-spec : {M : Type 1} → statement M
 walk-refusal-spec =
-    tie.close
-    (tie.spec outside-requires returns sub-outside outside-requires-2 first-of-requires returns-2)
+    tie.close (tie.spec (omega arith) returns sub-outside (omega arith) (omega arith) returns-2)

@@ -12,23 +12,8 @@ use Rattle.columns.proofs.RowLaws.{within}
 use Rattle.wandering.specs.Visits.{walk, pickedRows, columnPicks}
 use Rattle.wandering.specs.Encoding.{encodePicks}
 use Rattle.wandering.proofs.Recording.{visit-done, visit-noted}
-use borrow.Author.Needs.{needs}
 use Rattle.wandering.proofs.visit.Statement.{statement}
 use Rattle.wandering.proofs.visit.Tie as tie
-use Rattle.wandering.proofs.visit.Reads as reads
-use Rattle.wandering.proofs.visit.Lts as lts
-use Rattle.wandering.proofs.note_pair.Reads as note-pair-reads
-use Rattle.wandering.proofs.pick_rows.Reads as pick-rows-reads
-use Rattle.wandering.proofs.visit_row.Reads as visit-row-reads
-
-pick-rows-requires : tie.Need-pick-rows-requires
-pick-rows-requires c κs = search needs
-
-note-pair-requires : tie.Need-note-pair-requires
-note-pair-requires c κs = search needs
-
-add-visit-row : tie.Need-add-visit-row
-add-visit-row c = search needs
 
 visit-row-requires : tie.Need-visit-row-requires
 unfolding pickedRows
@@ -40,12 +25,6 @@ visit-row-requires c κs =
           (omega (arith, ap (λ (q : Rows). q .prev0 .0) (r .ensures .2))) (omega (arith, ap (λ (q : Rows). q .prev1 .0) (r .ensures .2))),
       omega arith,
     )
-
-same-length : tie.Need-same-length
-same-length c = search needs
-
-same-length-2 : tie.Need-same-length-2
-same-length-2 c = search needs
 
 returns : tie.Need-returns
 unfolding pickedRows
@@ -65,12 +44,4 @@ returns c =
 
 pub visit-spec : {M : Type 1} → statement M
 visit-spec =
-    tie.close
-    (tie.spec
-    pick-rows-requires
-    note-pair-requires
-    add-visit-row
-    visit-row-requires
-    same-length
-    same-length-2
-    returns)
+    tie.close (tie.spec (omega arith) (omega arith) (omega arith) visit-row-requires (omega arith) (omega arith) returns)

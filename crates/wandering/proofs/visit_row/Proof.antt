@@ -17,11 +17,6 @@ use Rattle.wandering.specs.Encoding.{encodePicks}
 use Rattle.wandering.proofs.Recording.{column-noted}
 use Rattle.wandering.proofs.visit_row.Statement.{statement}
 use Rattle.wandering.proofs.visit_row.Tie as tie
-use Rattle.wandering.proofs.visit_row.Reads as reads
-use Rattle.wandering.proofs.visit_row.Lts as lts
-use Rattle.columns.proofs.pick_columns.Reads as pick-columns-reads
-use Rattle.columns.proofs.visit_column.Reads as visit-column-reads
-use Rattle.wandering.proofs.note_pair.Reads as note-pair-reads
 
 abbrev Inv-loop : tie.InvT-loop
 Inv-loop s₀ m₀ rows columns record₀ at p₀ calls₀ col₀ s m «record» p calls col = (col ≤ columns) × (calls ≡ col) × (length m ≡ length m₀) × (length «record» ≡ length record₀) × (work s m ≡ visitColumns profile columns rows col (work s₀ m₀)) × («record» ≡ zipAt (λ (x y : ℕ). y) at record₀ (encodePicks (columnPicks profile columns rows col (work s₀ m₀)))) × (p ≡ picks profile columns s) × (p .col0 .0 < columns) × (p .col1 .0 < columns)
@@ -29,38 +24,17 @@ Inv-loop s₀ m₀ rows columns record₀ at p₀ calls₀ col₀ s m «record»
 abbrev μ-loop : tie.MeasureT-loop
 μ-loop s₀ m₀ rows columns record₀ at p₀ calls₀ col₀ s m «record» p calls col = columns - col
 
-pick-columns-requires : tie.Need-pick-columns-requires Inv-loop μ-loop
-pick-columns-requires c κs = omega arith
-
 loop-holds : tie.Need-loop-holds Inv-loop μ-loop
 unfolding visitColumns columnPicks encodePicks
 loop-holds c =
     let p = c .pick-columns .ensures in
     (omega arith, refl, refl, refl, loop-none _ _, sym (zipAt-none _ _ _), p .0, p .1, p .2)
 
-mul-note-pair : tie.Need-mul-note-pair Inv-loop μ-loop
-mul-note-pair c = omega arith
-
-add-note-pair : tie.Need-add-note-pair Inv-loop μ-loop
-add-note-pair c = omega arith
-
-note-pair-requires : tie.Need-note-pair-requires Inv-loop μ-loop
-note-pair-requires c κs = omega arith
-
 visit-column-requires : tie.Need-visit-column-requires Inv-loop μ-loop
 visit-column-requires c κs =
     let head = c .before .before .before .before .before .before .before in
     let start = head .before .before .before .before .before in
     (omega arith, head .loop .inv .7, head .loop .inv .8, subst (Within (start .args .columns) (start .args .rows)) (sym (head .loop .inv .2)) (start .pre .1))
-
-add-calls : tie.Need-add-calls Inv-loop μ-loop
-add-calls c = omega arith
-
-add-col : tie.Need-add-col Inv-loop μ-loop
-add-col c = omega arith
-
-loop-less : tie.Need-loop-less Inv-loop μ-loop
-loop-less c = omega arith
 
 loop-again : tie.Need-loop-again Inv-loop μ-loop
 unfolding visitColumns visitStep
@@ -85,12 +59,6 @@ loop-again c =
       visited .ensures .2,
     )
 
-same-length : tie.Need-same-length Inv-loop μ-loop
-same-length c = c .before .loop .inv .2
-
-same-length-2 : tie.Need-same-length-2 Inv-loop μ-loop
-same-length-2 c = c .before .loop .inv .3
-
 returns : tie.Need-returns Inv-loop μ-loop
 returns c =
     let a = c .before .before .before .before .before .before .args in
@@ -101,19 +69,5 @@ returns c =
 pub visit-row-spec : {M : Type 1} → statement M
 visit-row-spec =
     tie.close
-    (tie.spec
-    Inv-loop
-    μ-loop
-    pick-columns-requires
-    loop-holds
-    mul-note-pair
-    add-note-pair
-    note-pair-requires
-    visit-column-requires
-    add-calls
-    add-col
-    loop-less
-    loop-again
-    same-length
-    same-length-2
-    returns)
+    (tie.spec Inv-loop μ-loop (omega arith) loop-holds (omega arith) (omega arith) (omega arith) visit-column-requires (omega arith)
+    (omega arith) (omega arith) loop-again (λ c. c .before .loop .inv .2) (λ c. c .before .loop .inv .3) returns)

@@ -15,9 +15,6 @@ use Rattle.wandering.specs.Encoding.{encode}
 use Rattle.wandering.proofs.Recording.{wander-none, wander-more, visits-none, visits-more}
 use Rattle.wandering.proofs.wander.Statement.{statement}
 use Rattle.wandering.proofs.wander.Tie as tie
-use Rattle.wandering.proofs.wander.Reads as reads
-use Rattle.wandering.proofs.wander.Lts as lts
-use Rattle.wandering.proofs.visit.Reads as visit-reads
 
 abbrev Inv-loop : tie.InvT-loop
 Inv-loop s₀ m₀ n rows columns record₀ row0₀ row1₀ calls₀ at₀ k₀ s m «record» row0 row1 calls at k = (k ≤ n) × (row0 < rows) × (row1 < rows) × (calls ≡ k * columns) × (at ≡ k * (2 + 2 * columns)) × (length m ≡ length m₀) × (length «record» ≡ length record₀) × ((w : Walk) → walk (work s₀ m₀) row0₀ row1₀ ≡ wander profile rows columns 1 w → walk (work s m) row0 row1 ≡ wander profile rows columns k w) × ((w : Walk) (xs : List ℕ) → walk (work s₀ m₀) row0₀ row1₀ ≡ wander profile rows columns 1 w → record₀ ≡ zipAt (λ (x y : ℕ). y) 0 xs (encode (visits profile rows columns 1 w)) → «record» ≡ zipAt (λ (x y : ℕ). y) 0 xs (encode (visits profile rows columns k w)))
@@ -144,22 +141,5 @@ returns-2 c =
 pub wander-spec : {M : Type 1} → statement M
 wander-spec =
     tie.close
-    (tie.spec
-    Inv-loop
-    μ-loop
-    returns
-    visit-requires
-    mul-at
-    add-at
-    loop-holds
-    visit-requires-2
-    add-calls
-    mul-at-2
-    add-at-2
-    add-at-3
-    add-k
-    loop-less
-    loop-again
-    same-length
-    same-length-2
-    returns-2)
+    (tie.spec Inv-loop μ-loop returns visit-requires mul-at add-at loop-holds visit-requires-2 add-calls mul-at-2 add-at-2 add-at-3
+    add-k loop-less loop-again same-length same-length-2 returns-2)

@@ -1,0 +1,28 @@
+-- The loop over the columns of a row, which every row of Setup makes: a step for each column, each a reduced call. Assumes nothing.
+use mathlib.Core.Path.{_≡_, refl, _∙_}
+use Prim.Native.Nat.{ℕ, _+_, _≤_, _<_}
+use native.Mathlib.Omega.{arith}
+use mathlib.Core.List.{List}
+use lib.ListN.{length}
+use Rattle.lists.specs.Loop.{loop}
+use Rattle.lists.proofs.LoopLaws.{loop-none, loop-more, loop-end}
+use Rattle.columns.specs.Columns.{Work, work}
+
+-- the first col columns of C are done, from a state and a matrix to others
+pub record Done (f : ℕ → Work → Work) (C : ℕ) (s₀ m₀ s m : List ℕ) (calls col : ℕ) : Type 0 where
+  pub most : col ≤ C
+  pub counted : calls ≡ col
+  pub same : length m ≡ length m₀
+  pub is : work s m ≡ loop f col (work s₀ m₀)
+
+module _ (f : ℕ → Work → Work) where
+  pub done-none : (C : ℕ) (s m : List ℕ) → Done f C s m s m 0 0
+  done-none C s m = record { most = omega arith; counted = refl; same = refl; is = loop-none f (work s m) }
+
+  module _ {C calls col : ℕ} {s₀ m₀ s m : List ℕ} (d : Done f C s₀ m₀ s m calls col) where
+    pub done-again : {s′ m′ : List ℕ} → col < C → length m′ ≡ length m → work s′ m′ ≡ f col (work s m) → Done f C s₀ m₀ s′ m′ (calls + 1) (col + 1)
+    done-again lt l e =
+        record { most = omega arith; counted = omega (arith, d .counted); same = l ∙ d .same; is = loop-more f col _ _ _ (d .is) e }
+
+    pub done-end : C ≤ col → (calls ≡ C) × (work s m ≡ loop f C (work s₀ m₀))
+    done-end le = (omega (arith, d .counted, d .most), loop-end f col C _ _ (d .is) (omega (arith, d .most)))

@@ -1,0 +1,14 @@
+-- `fill_column` meets its contract: the write, then the call. Assumes nothing.
+use native.Mathlib.Omega.{arith}
+use Rattle.columns.specs.Columns.{fillColumn}
+use Rattle.first_columns.proofs.fill_column.Statement.{statement}
+use Rattle.first_columns.proofs.fill_column.Tie as tie
+
+returns : tie.Need-returns
+unfolding fillColumn
+returns c = cc
+
+pub fill-column-spec : {M : Type 1} → statement M
+fill-column-spec =
+    tie.close
+    (tie.spec (omega arith) (omega arith) (omega arith) (omega arith) (omega arith) (omega arith) (omega arith) (omega arith) returns)

@@ -1,0 +1,52 @@
+// Rows and columns picked by words of the output.
+use columns::Picks;
+use matrix::Column;
+use settings::Parameters;
+ghost use mathlib.Core.Path.{_≡_};
+ghost use Prim.Native.Nat.{_-_, _%_, _<_};
+ghost use lib.Bits.{bitAnd};
+ghost use Rattle.settings.specs.Settings.{settings};
+ghost use Rattle.columns.specs.Bounds.{Picked};
+
+// The remainder of a word, as a row or a column number.
+pub fn picked(word: u64, n: usize) -> usize
+    requires { ⌜ 0 < n ⌝ }
+    ensures { λ r. ⌜ r ≡ word % n ⌝ }
+    ensures { λ r. ⌜ r < n ⌝ }
+{
+    (word % (n as u64)) as usize
+}
+
+// The low bits of a word, below those of n - 1.
+fn masked(word: u64, n: usize) -> usize
+    requires { ⌜ 0 < n ⌝ }
+    ensures { λ r. ⌜ r ≡ bitAnd word (n - 1) ⌝ }
+{
+    (word & (n as u64 - 1)) as usize
+}
+
+// The same as `picked` for columns, whose number is mostly a power of two: the low bits are then the remainder.
+fn picked_column(word: u64, n: usize) -> usize
+    requires { ⌜ 0 < n ⌝ }
+    ensures { λ r. ⌜ r ≡ word % n ⌝ }
+    ensures { λ r. ⌜ r < n ⌝ }
+{
+    match n {
+        16 => masked(word, n),
+        32 => masked(word, n),
+        64 => masked(word, n),
+        128 => masked(word, n),
+        256 => masked(word, n),
+        _ => picked(word, n),
+    }
+}
+
+// The columns that a visit picks from the output.
+pub fn pick_columns(s: &[u64; 16], p: Parameters) -> Picks
+    requires { ⌜ 0 < p .columns ⌝ }
+    ensures { λ r. ⌜ Picked (settings p) (now (s .entry)) r ⌝ }
+{
+    let col0 = Column(picked_column(s[4], p.columns));
+    let col1 = Column(picked_column(s[6], p.columns));
+    Picks { col0, col1 }
+}

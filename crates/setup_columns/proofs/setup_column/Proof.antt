@@ -1,0 +1,13 @@
+-- `setup_column` meets its contract: the duplex, then the writes. Assumes nothing.
+use native.Mathlib.Omega.{arith}
+use Rattle.columns.specs.Columns.{setupColumn}
+use Rattle.setup_columns.proofs.setup_column.Statement.{statement}
+use Rattle.setup_columns.proofs.setup_column.Tie as tie
+
+returns : tie.Need-returns
+unfolding setupColumn
+returns c = cc
+
+pub setup-column-spec : {M : Type 1} → statement M
+setup-column-spec =
+    tie.close (tie.spec (omega arith) (omega arith) (omega arith) returns)

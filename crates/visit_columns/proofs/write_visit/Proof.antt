@@ -1,0 +1,14 @@
+-- `write_visit` meets its contract: the two XORs in their order. Assumes nothing.
+use native.Mathlib.Omega.{arith}
+use Rattle.columns.specs.Columns.{visitWritten}
+use Rattle.visit_columns.proofs.write_visit.Statement.{statement}
+use Rattle.visit_columns.proofs.write_visit.Tie as tie
+
+returns : tie.Need-returns
+unfolding visitWritten
+returns c = cc
+
+pub write-visit-spec : {M : Type 1} → statement M
+write-visit-spec =
+    tie.close
+    (tie.spec (omega arith) (omega arith) (omega arith) (omega arith) (omega arith) (omega arith) (omega arith) (omega arith) returns)
