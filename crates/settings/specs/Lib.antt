@@ -1,2 +1,3 @@
 -- What a derivation goes by.
 pub mod Settings
+pub mod Sizes

@@ -6,8 +6,8 @@ use native.Mathlib.Omega.{arith}
 use mathlib.Core.List.{List, [], _∷_, _++_}
 use lib.ListN.{length, length-append}
 use Rattle.lists.proofs.Parts.{append-inj}
-use Rattle.columns.specs.Settings.{Settings, Work}
-use Rattle.columns.specs.Columns.{picks}
+use Rattle.settings.specs.Settings.{Settings}
+use Rattle.columns.specs.Columns.{Work, picks}
 use Rattle.columns.specs.declared.Rows.{Rows}
 use Rattle.columns.specs.declared.Picks.{Picks}
 use Rattle.wandering.specs.Visits.{Walk, Visit, wander, columnPicks, visitColumns, visitData, visits}
@@ -65,18 +65,18 @@ encode-inj C (v ∷ vs) (w ∷ ws) hv hw e =
 
 -- ---- the visits of a walk are such
 
-as-many-picks : (S : Settings) (C : ℕ) (r : Rows) (n : ℕ) (w : Work) → length (columnPicks S C r n w) ≡ n
+as-many-picks : (S : Settings) (r : Rows) (n : ℕ) (w : Work) → length (columnPicks S r n w) ≡ n
 unfolding columnPicks
-as-many-picks S C r zero w = refl
-as-many-picks S C r (suc n) w =
-    omega (arith, length-append (columnPicks S C r n w) (picks S C (visitColumns S C r n w .state) ∷ []), as-many-picks S C r n w)
+as-many-picks S r zero w = refl
+as-many-picks S r (suc n) w =
+    omega (arith, length-append (columnPicks S r n w) (picks S (visitColumns S r n w .state) ∷ []), as-many-picks S r n w)
 
 one-more : (C : ℕ) (vs : List Visit) (v : Visit) → OfColumns C vs → length (v .columns) ≡ C → OfColumns C (vs ++ (v ∷ []))
 one-more C [] v h l = (l, tt)
 one-more C (u ∷ vs) v h l = (h .0, one-more C vs v (h .1) l)
 
-pub visits-of-columns : (S : Settings) (R C n : ℕ) (w : Walk) → OfColumns C (visits S R C n w)
+pub visits-of-columns : (S : Settings) (n : ℕ) (w : Walk) → OfColumns (S .columns) (visits S n w)
 unfolding visits visitData
-visits-of-columns S R C zero w = tt
-visits-of-columns S R C (suc n) w =
-    one-more C (visits S R C n w) (visitData S R C (wander S R C n w)) (visits-of-columns S R C n w) (as-many-picks S C _ C (wander S R C n w .done))
+visits-of-columns S zero w = tt
+visits-of-columns S (suc n) w =
+    one-more (S .columns) (visits S n w) (visitData S (wander S n w)) (visits-of-columns S n w) (as-many-picks S _ (S .columns) (wander S n w .done))

@@ -1,13 +1,11 @@
 -- Wandering: visits of two rows that the output picks, column by column.
-use Prim.Native.Nat.{ℕ, zero, suc, _%_}
+use Prim.Native.Nat.{ℕ, zero, suc}
 use mathlib.Core.List.{List, [], _∷_, _++_}
-use lib.ListN.{getD}
 use Rattle.lists.specs.Loop.{loop}
-use Rattle.sponge.specs.Sponge.{rand}
-use Rattle.columns.specs.Settings.{Settings, Work}
+use Rattle.settings.specs.Settings.{Settings}
 use Rattle.columns.specs.declared.Rows.{Rows}
 use Rattle.columns.specs.declared.Picks.{Picks}
-use Rattle.columns.specs.Columns.{picks, visitColumn}
+use Rattle.columns.specs.Columns.{Work, pickedBy, picks, visitColumn}
 
 -- what stands between visits: the work, and the rows of the visit before
 pub record Walk : Type 0 where
@@ -19,30 +17,26 @@ abbrev pub walk : Work → ℕ → ℕ → Walk
 walk w prev0 prev1 = record { done = w; prev0 = prev0; prev1 = prev1 }
 
 -- the rows that the next visit picks from the output, with those of the visit before
-unfoldable pub pickedRows : Settings → ℕ → Walk → Rows
-pickedRows S R w = record {
-  row0 = record { 0 = getD (rand (w .done .state)) 0 0 % R };
-  row1 = record { 0 = getD (rand (w .done .state)) (S .rotation % 12) 0 % R };
+unfoldable pub pickedRows : Settings → Walk → Rows
+pickedRows S w = record {
+  row0 = record { 0 = pickedBy S 0 (S .rows) (w .done .state) };
+  row1 = record { 0 = pickedBy S 1 (S .rows) (w .done .state) };
   prev0 = record { 0 = w .prev0 };
   prev1 = record { 0 = w .prev1 };
 }
 
--- a column of a visit, its picks taken from the output before it
-unfoldable pub visitStep : Settings → ℕ → Rows → ℕ → Work → Work
-visitStep S C r col w = visitColumn S C r col (picks S C (w .state)) w
+-- n columns of a visit, each with the picks of the output before it
+unfoldable pub visitColumns : Settings → Rows → ℕ → Work → Work
+visitColumns S r n w = loop (λ col v. visitColumn S r col (picks S (v .state)) v) n w
 
--- n columns of a visit
-unfoldable pub visitColumns : Settings → ℕ → Rows → ℕ → Work → Work
-visitColumns S C r n w = loop (visitStep S C r) n w
-
-unfoldable pub visit : Settings → ℕ → ℕ → Walk → Walk
-visit S R C w =
-    let r = pickedRows S R w in
-    record { done = visitColumns S C r C (w .done); prev0 = r .row0 .0; prev1 = r .row1 .0 }
+unfoldable pub visit : Settings → Walk → Walk
+visit S w =
+    let r = pickedRows S w in
+    walk (visitColumns S r (S .columns) (w .done)) (r .row0 .0) (r .row1 .0)
 
 -- n visits
-unfoldable pub wander : Settings → ℕ → ℕ → ℕ → Walk → Walk
-wander S R C n w = loop (λ k v. visit S R C v) n w
+unfoldable pub wander : Settings → ℕ → Walk → Walk
+wander S n w = loop (λ k v. visit S v) n w
 
 -- ---- what a visit picked, as data
 
@@ -52,16 +46,16 @@ pub record Visit : Type 0 where
   pub columns : List Picks
 
 -- the picks of the first n columns
-unfoldable pub columnPicks : Settings → ℕ → Rows → ℕ → Work → List Picks
-columnPicks S C r zero w = []
-columnPicks S C r (suc n) w = columnPicks S C r n w ++ (picks S C (visitColumns S C r n w .state) ∷ [])
+unfoldable pub columnPicks : Settings → Rows → ℕ → Work → List Picks
+columnPicks S r zero w = []
+columnPicks S r (suc n) w = columnPicks S r n w ++ (picks S (visitColumns S r n w .state) ∷ [])
 
-unfoldable pub visitData : Settings → ℕ → ℕ → Walk → Visit
-visitData S R C w =
-    let r = pickedRows S R w in
-    record { row0 = r .row0 .0; row1 = r .row1 .0; columns = columnPicks S C r C (w .done) }
+unfoldable pub visitData : Settings → Walk → Visit
+visitData S w =
+    let r = pickedRows S w in
+    record { row0 = r .row0 .0; row1 = r .row1 .0; columns = columnPicks S r (S .columns) (w .done) }
 
 -- the first n visits
-unfoldable pub visits : Settings → ℕ → ℕ → ℕ → Walk → List Visit
-visits S R C zero w = []
-visits S R C (suc n) w = visits S R C n w ++ (visitData S R C (wander S R C n w) ∷ [])
+unfoldable pub visits : Settings → ℕ → Walk → List Visit
+visits S zero w = []
+visits S (suc n) w = visits S n w ++ (visitData S (wander S n w) ∷ [])

@@ -1,19 +1,22 @@
 // Wandering: the visits, and a record of what they picked where the caller lends one.
-use columns::Picks;
 use columns::Rows;
-use columns::pick_columns;
-use columns::picked;
-use columns::visit_column;
 use matrix::Row;
+use picks::pick_columns;
+use picks::picked;
+use settings::Parameters;
+use visit_columns::visit_column;
 ghost use mathlib.Core.Path.{_≡_};
 ghost use Prim.Native.Nat.{_+_, _*_, _≤_, _<_, _^_};
 ghost use mathlib.Core.List.{[]};
 ghost use lib.ListN.{length, set};
-ghost use Rattle.lists.specs.Zip.{zipAt, putInto};
+ghost use Rattle.lists.specs.Zip.{zipAt};
+ghost use Rattle.settings.specs.Settings.{settings};
+ghost use Rattle.settings.specs.Sizes.{visitWords};
 ghost use Rattle.columns.specs.Bounds.{Within};
-ghost use Rattle.columns.specs.Settings.{profile, work};
-ghost use Rattle.wandering.specs.Visits.{walk, pickedRows, visitColumns, visit, wander, columnPicks, visitData, visits};
-ghost use Rattle.wandering.specs.Encoding.{encodePicks, encodeVisit, encode};
+ghost use Rattle.columns.specs.Columns.{work};
+ghost use Rattle.wandering.specs.Visits.{walk, pickedRows, visitColumns, visit, columnPicks, visitData};
+ghost use Rattle.wandering.specs.Encoding.{encodePicks, encodeVisit};
+ghost use Rattle.wandering.specs.Wandered.{Ready, Wandered};
 
 // Stores a number in the record, where the record reaches that far.
 fn note(record: &mut [u64], at: usize, value: usize)
@@ -40,19 +43,19 @@ fn visit_row(
     s: &mut [u64; 16],
     m: &mut [u64],
     rows: Rows,
-    columns: usize,
+    p: Parameters,
     record: &mut [u64],
     at: usize,
 ) -> u64
-    requires { ⌜ (0 < columns) × Within columns rows (length (now m)) × (at + 2 * columns < 2 ^ 64) ⌝ }
-    ensures { λ r. ⌜ (r ≡ columns) × (work (now (s .exit)) (now (m .exit)) ≡ visitColumns profile columns rows columns (work (now (s .entry)) (now (m .entry)))) × (now («record» .exit) ≡ zipAt (λ x y. y) at (now («record» .entry)) (encodePicks (columnPicks profile columns rows columns (work (now (s .entry)) (now (m .entry)))))) ⌝ }
+    requires { ⌜ (0 < p .columns) × Within (p .columns) rows (length (now m)) × (at + 2 * p .columns < 2 ^ 64) ⌝ }
+    ensures { λ r. ⌜ (r ≡ p .columns) × (work (now (s .exit)) (now (m .exit)) ≡ visitColumns (settings p) rows (p .columns) (work (now (s .entry)) (now (m .entry)))) × (now («record» .exit) ≡ zipAt (λ x y. y) at (now («record» .entry)) (encodePicks (columnPicks (settings p) rows (p .columns) (work (now (s .entry)) (now (m .entry)))))) ⌝ }
 {
-    let mut p = pick_columns(s, columns);
+    let mut next = pick_columns(s, p);
     let mut calls: u64 = 0;
     let mut col = 0;
-    while col < columns {
-        note_pair(record, at + 2 * col, p.col0.0, p.col1.0);
-        p = visit_column(s, m, rows, col, p, columns);
+    while col < p.columns {
+        note_pair(record, at + 2 * col, next.col0.0, next.col1.0);
+        next = visit_column(s, m, rows, col, next, p);
         calls += 1;
         col += 1;
     }
@@ -60,12 +63,12 @@ fn visit_row(
 }
 
 // The rows that a visit picks from the output, with those of the visit before.
-fn pick_rows(s: &[u64; 16], prev0: Row, prev1: Row, rows: usize) -> Rows
-    requires { ⌜ 0 < rows ⌝ }
-    ensures { λ r. ⌜ (r .row0 .0 < rows) × (r .row1 .0 < rows) × (r ≡ pickedRows profile rows (walk (work (now (s .entry)) []) (prev0 .0) (prev1 .0))) ⌝ }
+fn pick_rows(s: &[u64; 16], prev0: Row, prev1: Row, p: Parameters) -> Rows
+    requires { ⌜ 0 < p .rows ⌝ }
+    ensures { λ r. ⌜ (r .row0 .0 < p .rows) × (r .row1 .0 < p .rows) × (r ≡ pickedRows (settings p) (walk (work (now (s .entry)) []) (prev0 .0) (prev1 .0))) ⌝ }
 {
-    let row0 = Row(picked(s[0], rows));
-    let row1 = Row(picked(s[2], rows));
+    let row0 = Row(picked(s[0], p.rows));
+    let row1 = Row(picked(s[2], p.rows));
     Rows {
         row0,
         row1,
@@ -74,7 +77,7 @@ fn pick_rows(s: &[u64; 16], prev0: Row, prev1: Row, rows: usize) -> Rows
     }
 }
 
-// What a visit leaves to the next: its rows, and the reduced calls it made.
+// What visits leave: the rows of the last one, and the reduced calls that were made.
 pub struct Visited {
     pub row0: Row,
     pub row1: Row,
@@ -87,17 +90,16 @@ fn visit(
     m: &mut [u64],
     prev0: Row,
     prev1: Row,
-    rows: usize,
-    columns: usize,
+    p: Parameters,
     record: &mut [u64],
     at: usize,
 ) -> Visited
-    requires { ⌜ (0 < columns) × (prev0 .0 < rows) × (prev1 .0 < rows) × (12 * (rows * columns) ≤ length (now m)) × (at + (2 + 2 * columns) < 2 ^ 64) ⌝ }
-    ensures { λ r. ⌜ (r .calls ≡ columns) × (r .row0 .0 < rows) × (r .row1 .0 < rows) × (walk (work (now (s .exit)) (now (m .exit))) (r .row0 .0) (r .row1 .0) ≡ visit profile rows columns (walk (work (now (s .entry)) (now (m .entry))) (prev0 .0) (prev1 .0))) × (now («record» .exit) ≡ zipAt (λ x y. y) at (now («record» .entry)) (encodeVisit (visitData profile rows columns (walk (work (now (s .entry)) (now (m .entry))) (prev0 .0) (prev1 .0))))) ⌝ }
+    requires { ⌜ Ready (settings p) (prev0 .0) (prev1 .0) (length (now m)) × (at + visitWords (settings p) < 2 ^ 64) ⌝ }
+    ensures { λ r. ⌜ (r .calls ≡ p .columns) × (r .row0 .0 < p .rows) × (r .row1 .0 < p .rows) × (walk (work (now (s .exit)) (now (m .exit))) (r .row0 .0) (r .row1 .0) ≡ visit (settings p) (walk (work (now (s .entry)) (now (m .entry))) (prev0 .0) (prev1 .0))) × (now («record» .exit) ≡ zipAt (λ x y. y) at (now («record» .entry)) (encodeVisit (visitData (settings p) (walk (work (now (s .entry)) (now (m .entry))) (prev0 .0) (prev1 .0))))) ⌝ }
 {
-    let r = pick_rows(s, prev0, prev1, rows);
+    let r = pick_rows(s, prev0, prev1, p);
     note_pair(record, at, r.row0.0, r.row1.0);
-    let calls = visit_row(s, m, r, columns, record, at + 2);
+    let calls = visit_row(s, m, r, p, record, at + 2);
     let row0 = r.row0;
     let row1 = r.row1;
     Visited { row0, row1, calls }
@@ -111,12 +113,11 @@ pub fn wander(
     prev0: Row,
     prev1: Row,
     n: usize,
-    rows: usize,
-    columns: usize,
+    p: Parameters,
     record: &mut [u64],
 ) -> Visited
-    requires { ⌜ (0 < columns) × (prev0 .0 < rows) × (prev1 .0 < rows) × (12 * (rows * columns) ≤ length (now m)) × (n * (2 + 2 * columns) < 2 ^ 63) × (n * columns < 2 ^ 63) ⌝ }
-    ensures { λ r. ⌜ (r .calls ≡ n * columns) × (r .row0 .0 < rows) × (walk (work (now (s .exit)) (now (m .exit))) (r .row0 .0) (r .row1 .0) ≡ wander profile rows columns n (walk (work (now (s .entry)) (now (m .entry))) (prev0 .0) (prev1 .0))) × (now («record» .exit) ≡ putInto (now («record» .entry)) (encode (visits profile rows columns n (walk (work (now (s .entry)) (now (m .entry))) (prev0 .0) (prev1 .0))))) ⌝ }
+    requires { ⌜ Ready (settings p) (prev0 .0) (prev1 .0) (length (now m)) × (n * visitWords (settings p) < 2 ^ 63) × (n * p .columns < 2 ^ 63) ⌝ }
+    ensures { λ r. ⌜ Wandered (settings p) n (walk (work (now (s .entry)) (now (m .entry))) (prev0 .0) (prev1 .0)) (walk (work (now (s .exit)) (now (m .exit))) (r .row0 .0) (r .row1 .0)) (now («record» .entry)) (now («record» .exit)) (r .calls) ⌝ }
 {
     if n == 0 {
         return Visited {
@@ -125,18 +126,18 @@ pub fn wander(
             calls: 0,
         };
     }
-    let first = visit(s, m, prev0, prev1, rows, columns, record, 0);
+    let first = visit(s, m, prev0, prev1, p, record, 0);
     let mut row0 = first.row0.0;
     let mut row1 = first.row1.0;
     let mut calls = first.calls;
-    let mut at = 2 + 2 * columns;
+    let mut at = 2 + 2 * p.columns;
     let mut k = 1;
     while k < n {
-        let v = visit(s, m, Row(row0), Row(row1), rows, columns, record, at);
+        let v = visit(s, m, Row(row0), Row(row1), p, record, at);
         row0 = v.row0.0;
         row1 = v.row1.0;
         calls += v.calls;
-        at += 2 + 2 * columns;
+        at += 2 + 2 * p.columns;
         k += 1;
     }
     Visited {

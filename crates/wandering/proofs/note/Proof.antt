@@ -1,5 +1,5 @@
 -- `note` meets its contract: a store past the end changes nothing. Assumes nothing.
-use native.Mathlib.Omega.{arith}
+use borrow.Author.Needs.{needs}
 use mathlib.Core.Path.{sym}
 use lib.Seq.{set-out}
 use Rattle.wandering.proofs.note.Statement.{statement}
@@ -7,4 +7,4 @@ use Rattle.wandering.proofs.note.Tie as tie
 
 pub note-spec : {M : Type 1} → statement M
 note-spec =
-    tie.close (tie.spec (omega arith) (omega arith) (omega arith) (omega arith) (λ c. sym (set-out _ _ _ (c .if1 .left))))
+    tie.close (tie.spec (λ c. search needs) (λ c. search needs) (λ c. search needs) (λ c. search needs) (λ c. sym (set-out _ _ _ (c .if1 .left))))

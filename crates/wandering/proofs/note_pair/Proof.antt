@@ -1,6 +1,7 @@
 -- `note_pair` meets its contract: a store past the end changes nothing, and the next one neither. Assumes nothing.
 use mathlib.Core.Path.{sym, _∙_}
 use native.Mathlib.Omega.{arith}
+use borrow.Author.Needs.{needs}
 use lib.ListN.{length-set}
 use lib.Seq.{set-out}
 use denote.Ref.{now}
@@ -17,4 +18,4 @@ returns-2 c = sym (set-out _ _ _ (simp length-set (omega (arith, c .if1 .left)))
 
 pub note-pair-spec : {M : Type 1} → statement M
 note-pair-spec =
-    tie.close (tie.spec (omega arith) (omega arith) (omega arith) (omega arith) same-length (omega arith) returns-2)
+    tie.close (tie.spec (λ c. search needs) (λ c. search needs) (λ c. search needs) (λ c κs. search needs) same-length (λ c. search needs) returns-2)

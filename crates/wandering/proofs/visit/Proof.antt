@@ -7,7 +7,8 @@ use denote.Ref.{now}
 use lib.ListN.{length}
 use Rattle.lists.specs.Zip.{zipAt}
 use Rattle.columns.specs.declared.Rows.{Rows}
-use Rattle.columns.specs.Settings.{profile, work}
+use Rattle.settings.specs.Settings.{settings}
+use Rattle.columns.specs.Columns.{work}
 use Rattle.columns.proofs.RowLaws.{within}
 use Rattle.wandering.specs.Visits.{walk, pickedRows, columnPicks}
 use Rattle.wandering.specs.Encoding.{encodePicks}
@@ -20,9 +21,9 @@ unfolding pickedRows
 visit-row-requires c κs =
     let start = c .before .before .before .before .before .before .before .before .before .before .before in
     let r = c .before .before .before .before .before .before .before .pick-rows in (
-      start .pre .0,
-      within (start .args .rows) (start .args .columns) (length (now (start .args .m))) (start .pre .3) (r .result) (r .ensures .0) (r .ensures .1)
-          (omega (arith, ap (λ (q : Rows). q .prev0 .0) (r .ensures .2))) (omega (arith, ap (λ (q : Rows). q .prev1 .0) (r .ensures .2))),
+      start .pre .0 .columns-pos,
+      within (start .args .p .rows) (start .args .p .columns) (length (now (start .args .m))) (start .pre .0 .room) (r .result) (r .ensures .0) (r .ensures .1)
+          (omega (arith, start .pre .0 .prev0-lt, ap (λ (q : Rows). q .prev0 .0) (r .ensures .2))) (omega (arith, start .pre .0 .prev1-lt, ap (λ (q : Rows). q .prev1 .0) (r .ensures .2))),
       omega arith,
     )
 
@@ -37,9 +38,9 @@ returns c =
       row .ensures .0,
       r .ensures .0,
       r .ensures .1,
-      visit-done profile (start .args .rows) (start .args .columns) w (r .result) (r .ensures .2) _ (row .ensures .1),
-      visit-noted profile (start .args .rows) (start .args .columns) w (r .result) (r .ensures .2) (start .args .at) (now (start .args .«record»)) _
-          (row .ensures .2 ∙ ap (λ (l : List ℕ). zipAt (λ x y. y) (start .args .at + 2) l (encodePicks (columnPicks profile (start .args .columns) (r .result) (start .args .columns) (w .done)))) (noted .ensures)),
+      visit-done (settings (start .args .p)) w (r .result) (r .ensures .2) _ (row .ensures .1),
+      visit-noted (settings (start .args .p)) w (r .result) (r .ensures .2) (start .args .at) (now (start .args .«record»)) _
+          (row .ensures .2 ∙ ap (λ (l : List ℕ). zipAt (λ x y. y) (start .args .at + 2) l (encodePicks (columnPicks (settings (start .args .p)) (r .result) (start .args .p .columns) (w .done)))) (noted .ensures)),
     )
 
 pub visit-spec : {M : Type 1} → statement M

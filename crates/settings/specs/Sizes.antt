@@ -1,0 +1,18 @@
+-- How many words a derivation uses of what it is lent.
+use Prim.Native.Nat.{ℕ, _+_, _*_}
+use Rattle.sponge.specs.Profile.{cellWords}
+use Rattle.settings.specs.Settings.{Settings}
+
+-- the used matrix
+abbrev pub matrixWords : Settings → ℕ
+matrixWords S = cellWords * (S .rows * S .columns)
+
+-- the visits, the words of one in the record, and the used record
+abbrev pub visitCount : Settings → ℕ
+visitCount S = S .rows * S .time
+
+abbrev pub visitWords : Settings → ℕ
+visitWords S = 2 + 2 * S .columns
+
+abbrev pub recordWords : Settings → ℕ
+recordWords S = visitCount S * visitWords S

@@ -1,0 +1,24 @@
+-- What the code that makes visits asks for and gives.
+use mathlib.Core.Path.{_≡_}
+use Prim.Native.Nat.{ℕ, _*_, _≤_, _<_}
+use mathlib.Core.List.{List}
+use Rattle.lists.specs.Zip.{putInto}
+use Rattle.settings.specs.Settings.{Settings}
+use Rattle.settings.specs.Sizes.{matrixWords}
+use Rattle.wandering.specs.Visits.{Walk, wander, visits}
+use Rattle.wandering.specs.Encoding.{encode}
+
+-- there are columns, the previous rows are rows, and a matrix of so many words has room for all of them
+pub record Ready (S : Settings) (prev0 prev1 words : ℕ) : Type 0 where
+  pub columns-pos : 0 < S .columns
+  pub prev0-lt : prev0 < S .rows
+  pub prev1-lt : prev1 < S .rows
+  pub room : matrixWords S ≤ words
+
+-- n visits lead from the walk w to w′, the record from xs to xs′
+pub record Wandered (S : Settings) (n : ℕ) (w w′ : Walk) (xs xs′ : List ℕ) (calls : ℕ) : Type 0 where
+  pub counted : calls ≡ n * S .columns
+  pub prev0-lt : w′ .prev0 < S .rows
+  pub prev1-lt : w′ .prev1 < S .rows
+  pub walked : w′ ≡ wander S n w
+  pub noted : xs′ ≡ putInto xs (encode (visits S n w))
