@@ -1,70 +1,64 @@
 -- The checks by number, and those that each operation has.
-use Prim.Native.Nat.{ℕ, _+_, _-_, _*_}
+use Prim.Native.Nat.{ℕ, _-_, _≤_}
 use mathlib.Core.Bool.{Bool, cond, _||_}
 use mathlib.Core.List.{List, [], _∷_, _++_}
 use lib.Dec.{ltb}
+use Rattle.settings.specs.Settings.{settings}
+use Rattle.settings.specs.Sizes.{matrixWords, recordWords}
+use Rattle.settings.specs.declared.Parameters.{Parameters}
+use Rattle.settings.specs.declared.Lengths.{Lengths}
 use Rattle.refusals.specs.Limits.{maxKey, maxPassword, minSalt, maxSalt, maxTime, minRows, maxRows, maxColumns}
 
--- a check: its number, and whether it turns the call down
-pub record Check : Type 0 where
-  pub number : ℕ
-  pub refuses : Bool
+-- a check has a number, and turns a call down where a value is not least to most, or is below the least
+pub data Check : Type 0 where
+  range : (number least most value : ℕ) → Check
+  atLeast : (number least value : ℕ) → Check
 
--- the number of the first check that refuses, 0 where none does
-unfoldable pub first : List Check → ℕ
-first [] = 0
-first (c ∷ cs) = cond (c .refuses) (c .number) (first cs)
+abbrev pub numberOf : Check → ℕ
+numberOf (range number least most value) = number
+numberOf (atLeast number least value) = number
 
 -- x is not least to most
 abbrev pub outside : ℕ → ℕ → ℕ → Bool
 outside least most x = ltb x least || ltb most x
 
-abbrev pub keyCheck : ℕ → Check
-keyCheck k = record { number = 1; refuses = outside 1 maxKey k }
+abbrev pub refuses : Check → Bool
+refuses (range number least most value) = outside least most value
+refuses (atLeast number least value) = ltb value least
 
-abbrev pub passwordCheck : ℕ → Check
-passwordCheck p = record { number = 2; refuses = outside 0 maxPassword p }
+-- the number of the first check that refuses, 0 where none does
+unfoldable pub first : List Check → ℕ
+first [] = 0
+first (c ∷ cs) = cond (refuses c) (numberOf c) (first cs)
 
-abbrev pub saltCheck : ℕ → Check
-saltCheck s = record { number = 3; refuses = outside minSalt maxSalt s }
+-- ---- the operations: the cost question, the plain derivation and the check, the recorded derivation, the walk question
 
-abbrev pub timeCheck : ℕ → Check
-timeCheck T = record { number = 4; refuses = outside 1 maxTime T }
-
-abbrev pub rowsCheck : ℕ → Check
-rowsCheck R = record { number = 5; refuses = outside minRows maxRows R }
-
-abbrev pub columnsCheck : ℕ → Check
-columnsCheck C = record { number = 6; refuses = outside 1 maxColumns C }
-
--- the words of the used matrix and of the used record
-abbrev pub matrixWords : ℕ → ℕ → ℕ
-matrixWords R C = 12 * (R * C)
-
-abbrev pub recordWords : ℕ → ℕ → ℕ → ℕ
-recordWords T R C = R * T * (2 + 2 * C)
-
-abbrev pub matrixCheck : ℕ → ℕ → ℕ → Check
-matrixCheck R C words = record { number = 7; refuses = ltb words (matrixWords R C) }
-
-abbrev pub recordCheck : ℕ → ℕ → ℕ → ℕ → Check
-recordCheck T R C words = record { number = 8; refuses = ltb words (recordWords T R C) }
-
-abbrev pub rowCheck : ℕ → ℕ → Check
-rowCheck R row0 = record { number = 9; refuses = outside 3 (R - 1) row0 }
-
--- the lengths of key, password and salt, then T, R and C
-unfoldable pub costChecks : ℕ → ℕ → ℕ → ℕ → ℕ → ℕ → List Check
-costChecks k p s T R C =
-    keyCheck k ∷ passwordCheck p ∷ saltCheck s ∷ timeCheck T ∷ rowsCheck R ∷ columnsCheck C ∷ []
+unfoldable pub costChecks : Lengths → Parameters → List Check
+costChecks l p =
+    range 1 1 maxKey (l .key) ∷ range 2 0 maxPassword (l .password) ∷ range 3 minSalt maxSalt (l .salt)
+    ∷ range 4 1 maxTime (p .time) ∷ range 5 minRows maxRows (p .rows) ∷ range 6 1 maxColumns (p .columns) ∷ []
 
 -- the same and the words of the lent matrix
-unfoldable pub plainChecks : ℕ → ℕ → ℕ → ℕ → ℕ → ℕ → ℕ → List Check
-plainChecks k p s T R C m = costChecks k p s T R C ++ (matrixCheck R C m ∷ [])
+unfoldable pub plainChecks : Lengths → Parameters → ℕ → List Check
+plainChecks l p matrix = costChecks l p ++ (atLeast 7 (matrixWords (settings p)) matrix ∷ [])
 
 -- the same and the words of the lent record
-unfoldable pub recordedChecks : ℕ → ℕ → ℕ → ℕ → ℕ → ℕ → ℕ → ℕ → List Check
-recordedChecks k p s T R C m v = plainChecks k p s T R C m ++ (recordCheck T R C v ∷ [])
+unfoldable pub recordedChecks : Lengths → Parameters → ℕ → ℕ → List Check
+recordedChecks l p matrix visited = plainChecks l p matrix ++ (atLeast 8 (recordWords (settings p)) visited ∷ [])
+
+-- R alone is what the walk program asks
+abbrev pub rowsCheck : ℕ → Check
+rowsCheck R = range 5 minRows maxRows R
 
 unfoldable pub walkChecks : ℕ → ℕ → List Check
-walkChecks R row0 = rowsCheck R ∷ rowCheck R row0 ∷ []
+walkChecks R row0 = rowsCheck R ∷ range 9 3 (R - 1) row0 ∷ []
+
+-- ---- what is so where no check refuses
+
+abbrev pub Holds : Check → Type 0
+Holds (range number least most value) = (least ≤ value) × (value ≤ most)
+Holds (atLeast number least value) = least ≤ value
+
+abbrev pub Accepted : List Check → Type 0
+Accepted [] = Unit {0}
+Accepted (c ∷ cs) = Holds c × Accepted cs

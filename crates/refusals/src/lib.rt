@@ -1,9 +1,13 @@
 // When a call is turned down: each check by its number, in the order of the numbers. 0 is no refusal.
+use settings::Lengths;
+use settings::Parameters;
+use sponge::profile::Profile;
 ghost use mathlib.Core.Path.{_≡_};
 ghost use mathlib.Core.Bool.{cond};
-ghost use mathlib.Core.List.{List, [], _∷_};
+ghost use mathlib.Core.List.{[], _∷_};
 ghost use Prim.Native.Nat.{_+_, _*_, _≤_, _<_, _^_};
-ghost use Rattle.refusals.specs.Checks.{first, outside as «is-outside», costChecks, plainChecks, recordedChecks, walkChecks, timeCheck, rowsCheck, columnsCheck};
+ghost use Rattle.sponge.specs.Profile.{cellWords};
+ghost use Rattle.refusals.specs.Checks.{first, outside as «is-outside», costChecks, plainChecks, recordedChecks, walkChecks, rowsCheck};
 
 pub const KEY_LENGTH: u32 = 1;
 
@@ -52,49 +56,39 @@ fn first_of(refuses: bool, number: u32, later: u32) -> u32
     if refuses { number } else { later }
 }
 
-// Checks 4 to 6, of T, R and C.
-fn costs(time: usize, rows: usize, columns: usize) -> u32
-    ensures { λ r. ⌜ r ≡ first (timeCheck time ∷ rowsCheck rows ∷ columnsCheck columns ∷ []) ⌝ }
+// Checks 1 to 6, of the lengths, T, R and C.
+pub fn cost_refusal(l: Lengths, p: Parameters) -> u32
+    ensures { λ r. ⌜ r ≡ first (costChecks l p) ⌝ }
 {
-    let six = first_of(outside(1, MAX_COLUMNS, columns), COLUMN_COUNT, 0);
-    let five = first_of(outside(MIN_ROWS, MAX_ROWS, rows), ROW_COUNT, six);
-    first_of(outside(1, MAX_TIME, time), TIME_COST, five)
+    let six = first_of(outside(1, MAX_COLUMNS, p.columns), COLUMN_COUNT, 0);
+    let five = first_of(outside(MIN_ROWS, MAX_ROWS, p.rows), ROW_COUNT, six);
+    let four = first_of(outside(1, MAX_TIME, p.time), TIME_COST, five);
+    let three = first_of(outside(MIN_SALT, MAX_SALT, l.salt), SALT_LENGTH, four);
+    let two = first_of(outside(0, MAX_PASSWORD, l.password), PASSWORD_LENGTH, three);
+    first_of(outside(1, MAX_KEY, l.key), KEY_LENGTH, two)
 }
 
-// Checks 1 to 6, of the lengths, T, R and C.
-pub fn cost_refusal(
-    key: usize,
-    password: usize,
-    salt: usize,
-    time: usize,
-    rows: usize,
-    columns: usize,
-) -> u32
-    ensures { λ r. ⌜ r ≡ first (costChecks key password salt time rows columns) ⌝ }
+// The words that so many cells take.
+fn matrix_words(cells: usize) -> usize
+    requires { ⌜ cells ≤ 2 ^ 32 ⌝ }
+    ensures { λ r. ⌜ r ≡ cellWords * cells ⌝ }
 {
-    let four = costs(time, rows, columns);
-    let three = first_of(outside(MIN_SALT, MAX_SALT, salt), SALT_LENGTH, four);
-    let two = first_of(outside(0, MAX_PASSWORD, password), PASSWORD_LENGTH, three);
-    first_of(outside(1, MAX_KEY, key), KEY_LENGTH, two)
+    Profile::CELL_WORDS * cells
 }
 
 // Checks 1 to 7, of the same and of the lent matrix's length.
-pub fn plain_refusal(
-    key: usize,
-    password: usize,
-    salt: usize,
-    time: usize,
-    rows: usize,
-    columns: usize,
-    matrix: usize,
-) -> u32
-    ensures { λ r. ⌜ r ≡ first (plainChecks key password salt time rows columns matrix) ⌝ }
+pub fn plain_refusal(l: Lengths, p: Parameters, matrix: usize) -> u32
+    ensures { λ r. ⌜ r ≡ first (plainChecks l p matrix) ⌝ }
 {
-    let number = cost_refusal(key, password, salt, time, rows, columns);
+    let number = cost_refusal(l, p);
     if number != 0 {
         return number;
     }
-    first_of(matrix < 12 * (rows * columns), MATRIX_LENGTH, 0)
+    first_of(
+        matrix < matrix_words(p.rows * p.columns),
+        MATRIX_LENGTH,
+        0,
+    )
 }
 
 // The words that the record of n visits takes.
@@ -107,24 +101,15 @@ fn record_words(n: usize, columns: usize) -> usize
 }
 
 // Checks 1 to 8, of the same and of the lent record's length.
-pub fn recorded_refusal(
-    key: usize,
-    password: usize,
-    salt: usize,
-    time: usize,
-    rows: usize,
-    columns: usize,
-    matrix: usize,
-    record: usize,
-) -> u32
-    ensures { λ r. ⌜ r ≡ first (recordedChecks key password salt time rows columns matrix «record») ⌝ }
+pub fn recorded_refusal(l: Lengths, p: Parameters, matrix: usize, record: usize) -> u32
+    ensures { λ r. ⌜ r ≡ first (recordedChecks l p matrix «record») ⌝ }
 {
-    let number = plain_refusal(key, password, salt, time, rows, columns, matrix);
+    let number = plain_refusal(l, p, matrix);
     if number != 0 {
         return number;
     }
     first_of(
-        record < record_words(rows * time, columns),
+        record < record_words(p.rows * p.time, p.columns),
         RECORD_LENGTH,
         0,
     )

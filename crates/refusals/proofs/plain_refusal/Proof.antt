@@ -1,35 +1,43 @@
 -- `plain_refusal` meets its contract: the checks of the cost question, then that of the matrix. Assumes nothing.
-use mathlib.Core.Path.{sym, _∙_}
+use mathlib.Core.Path.{_≡_, sym, ap, _∙_}
+use mathlib.Core.Bool.{cond}
+use Prim.Native.Nat.{ℕ, _*_, _≤_}
+use lib.Dec.{ltb}
 use native.Mathlib.Omega.{arith}
-use Rattle.refusals.specs.Checks.{costChecks, plainChecks, matrixCheck}
-use Rattle.refusals.proofs.Accepted.{more-refuse, more-pass, cost-bounds, cost-numbered, cells-most}
+use Rattle.settings.specs.Settings.{settings}
+use Rattle.settings.specs.Sizes.{matrixWords}
+use Rattle.settings.specs.declared.Parameters.{Parameters}
+use Rattle.settings.specs.declared.Lengths.{Lengths}
+use Rattle.refusals.specs.Checks.{atLeast, first, costChecks, plainChecks}
+use Rattle.refusals.proofs.Accepted.{accepted, more-refuse, more-pass, cells-most}
 use Rattle.refusals.proofs.plain_refusal.Statement.{statement}
 use Rattle.refusals.proofs.plain_refusal.Tie as tie
+
+-- what the checks of the cost question leave
+cells : (l : Lengths) (p : Parameters) → first (costChecks l p) ≡ 0 → p .rows * p .columns ≤ 4194304
+unfolding costChecks
+cells l p e =
+    let bounds = accepted (costChecks l p) (omega arith) e in
+    cells-most (p .rows) (p .columns) (omega arith) (omega arith)
 
 returns : tie.Need-returns
 unfolding plainChecks
 returns c =
     let a = c .before .before .args in
-    more-refuse (costChecks (a .key) (a .password) (a .salt) (a .time) (a .rows) (a .columns)) (matrixCheck (a .rows) (a .columns) (a .matrix)) _ (c .before .cost-refusal .ensures) (c .if1 .taken)
-
-mul-first-of : tie.Need-mul-first-of
-mul-first-of c =
-    let a = c .before .before .args in
-    let bounds = cost-bounds (a .key) (a .password) (a .salt) (a .time) (a .rows) (a .columns) (sym (c .before .cost-refusal .ensures) ∙ c .if1 .left) in
-    omega (arith, cells-most (a .rows) (a .columns) (bounds .rows-most) (bounds .columns-most))
-
-mul-first-of-2 : tie.Need-mul-first-of-2
-mul-first-of-2 c =
-    let a = c .before .before .args in
-    let bounds = cost-bounds (a .key) (a .password) (a .salt) (a .time) (a .rows) (a .columns) (sym (c .before .cost-refusal .ensures) ∙ c .if1 .left) in
-    omega (arith, cells-most (a .rows) (a .columns) (bounds .rows-most) (bounds .columns-most))
+    more-refuse (costChecks (a .l) (a .p)) (atLeast 7 (matrixWords (settings (a .p))) (a .matrix)) _ (c .before .cost-refusal .ensures) (c .if1 .taken)
 
 returns-2 : tie.Need-returns-2
-unfolding plainChecks
+unfolding plainChecks costChecks
 returns-2 c =
-    let a = c .before .before .before .args in
-    more-pass (costChecks (a .key) (a .password) (a .salt) (a .time) (a .rows) (a .columns)) (matrixCheck (a .rows) (a .columns) (a .matrix)) _ (c .before .before .cost-refusal .ensures) (cost-numbered (a .key) (a .password) (a .salt) (a .time) (a .rows) (a .columns)) (c .before .if1 .left) _ (c .first-of .ensures)
+    let a = c .before .before .before .before .before .args in
+    more-pass (costChecks (a .l) (a .p)) (atLeast 7 (matrixWords (settings (a .p))) (a .matrix)) _ (c .before .before .before .before .cost-refusal .ensures)
+    (omega arith) (c .before .before .before .if1 .left) _
+    (c .first-of .ensures ∙ ap (λ (n : ℕ). cond (ltb (a .matrix) n) 7 0) (c .before .matrix-words .ensures))
 
 pub plain-refusal-spec : {M : Type 1} → statement M
 plain-refusal-spec =
-    tie.close (tie.spec (omega arith) returns mul-first-of mul-first-of-2 (omega arith) returns-2)
+    tie.close
+    (tie.spec (omega arith) returns
+    (λ c. omega (arith, cells _ _ (sym (c .before .before .cost-refusal .ensures) ∙ c .before .if1 .left)))
+    (λ c κs. omega (arith, cells _ _ (sym (c .before .before .cost-refusal .ensures) ∙ c .before .if1 .left)))
+    (omega arith) returns-2)

@@ -1,40 +1,46 @@
 -- `recorded_refusal` meets its contract: the checks of the plain derivation, then that of the record. Assumes nothing.
-use mathlib.Core.Path.{sym, ap, _∙_}
+use mathlib.Core.Path.{_≡_, sym, ap, _∙_}
 use mathlib.Core.Bool.{cond}
-use Prim.Native.Nat.{ℕ}
+use Prim.Native.Nat.{ℕ, _+_, _*_, _≤_}
 use lib.Dec.{ltb}
 use native.Mathlib.Omega.{arith}
-use Rattle.refusals.specs.Checks.{plainChecks, recordedChecks, recordCheck}
-use Rattle.refusals.proofs.Accepted.{more-refuse, more-pass, plain-bounds, plain-numbered, record-most, visits-most}
+use Rattle.settings.specs.Settings.{settings}
+use Rattle.settings.specs.Sizes.{recordWords}
+use Rattle.settings.specs.declared.Parameters.{Parameters}
+use Rattle.settings.specs.declared.Lengths.{Lengths}
+use Rattle.refusals.specs.Checks.{atLeast, first, costChecks, plainChecks, recordedChecks}
+use Rattle.refusals.proofs.Accepted.{accepted, more-refuse, more-pass, record-most, visits-most}
 use Rattle.refusals.proofs.recorded_refusal.Statement.{statement}
 use Rattle.refusals.proofs.recorded_refusal.Tie as tie
+
+-- what the checks of the plain derivation leave
+visited : (l : Lengths) (p : Parameters) (m : ℕ) → first (plainChecks l p m) ≡ 0
+    → (p .columns ≤ 256) × (p .rows * p .time ≤ 4177920) × (p .rows * p .time * (2 + 2 * p .columns) ≤ 2147450880)
+unfolding plainChecks costChecks
+visited l p m e =
+    let bounds = accepted (plainChecks l p m) (omega arith) e in
+    (omega arith, visits-most (p .rows) (p .time) (omega arith) (omega arith), record-most (p .rows) (p .time) (p .columns) (omega arith) (omega arith) (omega arith))
 
 returns : tie.Need-returns
 unfolding recordedChecks
 returns c =
     let a = c .before .before .args in
-    more-refuse (plainChecks (a .key) (a .password) (a .salt) (a .time) (a .rows) (a .columns) (a .matrix)) (recordCheck (a .time) (a .rows) (a .columns) (a .«record»)) _ (c .before .plain-refusal .ensures) (c .if1 .taken)
-
--- what the checks of the plain derivation leave
-mul-record-words : tie.Need-mul-record-words
-mul-record-words c =
-    let a = c .before .before .args in
-    let bounds = plain-bounds (a .key) (a .password) (a .salt) (a .time) (a .rows) (a .columns) (a .matrix) (sym (c .before .plain-refusal .ensures) ∙ c .if1 .left) .costs in
-    omega (arith, visits-most (a .time) (a .rows) (bounds .time-most) (bounds .rows-most))
-
-record-words-requires : tie.Need-record-words-requires
-record-words-requires c κs =
-    let a = c .before .before .args in
-    let bounds = plain-bounds (a .key) (a .password) (a .salt) (a .time) (a .rows) (a .columns) (a .matrix) (sym (c .before .plain-refusal .ensures) ∙ c .if1 .left) .costs in
-    (bounds .columns-most, omega (arith, record-most (a .time) (a .rows) (a .columns) (bounds .time-most) (bounds .rows-most) (bounds .columns-most)))
+    more-refuse (plainChecks (a .l) (a .p) (a .matrix)) (atLeast 8 (recordWords (settings (a .p))) (a .«record»)) _ (c .before .plain-refusal .ensures) (c .if1 .taken)
 
 returns-2 : tie.Need-returns-2
-unfolding recordedChecks
+unfolding recordedChecks plainChecks costChecks
 returns-2 c =
-    let a = c .before .before .before .before .args in
-    more-pass (plainChecks (a .key) (a .password) (a .salt) (a .time) (a .rows) (a .columns) (a .matrix)) (recordCheck (a .time) (a .rows) (a .columns) (a .«record»)) _ (c .before .before .before .plain-refusal .ensures) (plain-numbered (a .key) (a .password) (a .salt) (a .time) (a .rows) (a .columns) (a .matrix)) (c .before .before .if1 .left) _
+    let a = c .before .before .before .before .before .args in
+    more-pass (plainChecks (a .l) (a .p) (a .matrix)) (atLeast 8 (recordWords (settings (a .p))) (a .«record»)) _ (c .before .before .before .before .plain-refusal .ensures)
+    (omega arith) (c .before .before .before .if1 .left) _
     (c .first-of .ensures ∙ ap (λ (n : ℕ). cond (ltb (a .«record») n) 8 0) (c .before .record-words .ensures))
 
 pub recorded-refusal-spec : {M : Type 1} → statement M
 recorded-refusal-spec =
-    tie.close (tie.spec (omega arith) returns mul-record-words record-words-requires (omega arith) returns-2)
+    tie.close
+    (tie.spec (omega arith) returns
+    (λ c. omega (arith, visited _ _ _ (sym (c .before .before .plain-refusal .ensures) ∙ c .before .if1 .left)))
+    (λ c κs.
+    let v = visited _ _ _ (sym (c .before .before .plain-refusal .ensures) ∙ c .before .if1 .left) in
+    (v .0, omega (arith, v .2)))
+    (omega arith) returns-2)
