@@ -1,5 +1,4 @@
--- The laws of the padded input and of its absorption, for the proofs of this crate and of the crates above it.
-pub mod Padded
-pub mod Bytes
+-- The laws of a derivation's input and of its absorption, for the proofs of this crate and of the crates above it.
+pub mod Absorbing
+pub mod InputLaws
 pub mod Cases
-pub mod Injective

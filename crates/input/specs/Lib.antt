@@ -1,2 +1,2 @@
--- The padded input and its absorption.
+-- A derivation's input and its absorption.
 pub mod Input

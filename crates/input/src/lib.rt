@@ -1,43 +1,17 @@
-// The padded input, byte by byte as it is asked for, and its absorption. No copy of the password is made.
-use little_endian::byte_of;
-use little_endian::widened;
+// The absorption of the padded input. No block of its own ever holds the password.
+use padded_input::BLOCK_BYTES;
+use padded_input::NUMBER_BYTES;
+use padded_input::input_word;
+use settings::Parameters;
 use sponge::duplex::full_call;
+use sponge::profile::Profile;
 ghost use mathlib.Core.Path.{_≡_};
-ghost use Prim.Native.Nat.{_+_, _*_, _≤_, _<_};
-ghost use lib.ListN.{length, getD, take, drop};
+ghost use Prim.Native.Nat.{_<_};
+ghost use lib.ListN.{length};
 ghost use Rattle.lists.specs.Zip.{xorInto};
 ghost use Rattle.permutation.specs.Word.{plainSum};
-ghost use Rattle.little_endian.specs.Bytes.{leValue, leEach};
-ghost use Rattle.input.specs.Input.{Short, numbers, padding, padded, blocks, block, absorbInput};
-
-const BLOCK_BYTES: usize = 64;
-
-const NUMBER_BYTES: usize = 4;
-
-// Byte i of the numbers.
-fn number_byte(numbers: &[u64], i: usize) -> u8
-    requires { ⌜ i < 4 * length (now numbers) ⌝ }
-    ensures { λ r. ⌜ r ≡ getD (leEach 4 (now (numbers .entry))) i 0 ⌝ }
-{
-    byte_of(numbers[i / NUMBER_BYTES], i % NUMBER_BYTES)
-}
-
-// Byte i of n padded bytes. Where only one byte is padded, it is both the first and the last.
-fn padding_byte(n: usize, i: usize) -> u8
-    requires { ⌜ 0 < n ⌝ }
-    ensures { λ r. ⌜ r ≡ getD (padding n) i 0 ⌝ }
-{
-    if i == n - 1 {
-        if i == 0 {
-            return 0x81;
-        }
-        return 0x01;
-    }
-    if i == 0 {
-        return 0x80;
-    }
-    0
-}
+ghost use Rattle.settings.specs.Settings.{settings};
+ghost use Rattle.input.specs.Input.{Short, padded, blocks, block, absorbInput, input, lengths, numbers, inputBlocks};
 
 // How many blocks the padded input has.
 pub fn block_count(password: usize, salt: usize, numbers: usize) -> usize
@@ -47,48 +21,13 @@ pub fn block_count(password: usize, salt: usize, numbers: usize) -> usize
     (password + salt + NUMBER_BYTES * numbers + BLOCK_BYTES) / BLOCK_BYTES
 }
 
-// Byte i of the padded input.
-fn input_byte(password: &[u8], salt: &[u8], numbers: &[u64], i: usize) -> u8
-    requires { ⌜ Short (length (now password)) (length (now salt)) (length (now numbers)) ⌝ }
-    ensures { λ r. ⌜ r ≡ getD (padded (now (password .entry)) (now (salt .entry)) (now (numbers .entry))) i 0 ⌝ }
-{
-    if i < password.len() {
-        return password[i];
-    }
-    let j = i - password.len();
-    if j < salt.len() {
-        return salt[j];
-    }
-    let k = j - salt.len();
-    let n = NUMBER_BYTES * numbers.len();
-    if k < n {
-        return number_byte(numbers, k);
-    }
-    let used = password.len() + salt.len() + n;
-    padding_byte(BLOCK_BYTES - used % BLOCK_BYTES, k - n)
-}
-
-// The word at byte `at` of the padded input.
-fn input_word(password: &[u8], salt: &[u8], numbers: &[u64], at: usize) -> u64
-    requires { ⌜ Short (length (now password)) (length (now salt)) (length (now numbers)) × (at + 8 ≤ 64 * blocks (length (now password)) (length (now salt)) (length (now numbers))) ⌝ }
-    ensures { λ r. ⌜ r ≡ leValue (take 8 (drop at (padded (now (password .entry)) (now (salt .entry)) (now (numbers .entry))))) ⌝ }
-{
-    let mut v: u64 = 0;
-    let mut i: usize = 8;
-    while 0 < i {
-        i -= 1;
-        v = v * 256 + widened(input_byte(password, salt, numbers, at + i));
-    }
-    v
-}
-
-// Block b of the padded input, XORed into the state word by word: no block of its own ever holds the password.
+// Block b of the padded input, XORed into the state word by word.
 fn xor_block(s: &mut [u64; 16], password: &[u8], salt: &[u8], numbers: &[u64], b: usize)
     requires { ⌜ Short (length (now password)) (length (now salt)) (length (now numbers)) × (b < blocks (length (now password)) (length (now salt)) (length (now numbers))) ⌝ }
     ensures { λ _. ⌜ now (s .exit) ≡ xorInto (now (s .entry)) (block (padded (now (password .entry)) (now (salt .entry)) (now (numbers .entry))) b) ⌝ }
 {
     let mut i = 0;
-    while i < 8 {
+    while i < Profile::BLOCK_WORDS {
         s[i] = s[i] ^ input_word(password, salt, numbers, BLOCK_BYTES * b + 8 * i);
         i += 1;
     }
@@ -117,20 +56,18 @@ pub fn absorb_input(
     password: &[u8],
     salt: &[u8],
     key_length: usize,
-    t: usize,
-    r: usize,
-    c: usize,
+    p: Parameters,
 ) -> u64
     requires { ⌜ Short (length (now password)) (length (now salt)) 6 ⌝ }
-    ensures { λ calls. ⌜ (now (s .exit) ≡ absorbInput plainSum (now (password .entry)) (now (salt .entry)) (numbers «key_length» (now (password .entry)) (now (salt .entry)) t r c) (now (s .entry))) × (calls ≡ blocks (length (now (password .entry))) (length (now (salt .entry))) 6) ⌝ }
+    ensures { λ calls. ⌜ (now (s .exit) ≡ absorbInput plainSum (now (password .entry)) (now (salt .entry)) (numbers (input (now (password .entry)) (now (salt .entry)) «key_length») (settings p)) (now (s .entry))) × (calls ≡ inputBlocks (lengths (input (now (password .entry)) (now (salt .entry)) «key_length»))) ⌝ }
 {
     let numbers = [
         key_length as u64,
         password.len() as u64,
         salt.len() as u64,
-        t as u64,
-        r as u64,
-        c as u64,
+        p.time as u64,
+        p.rows as u64,
+        p.columns as u64,
     ];
     absorb_padded(s, password, salt, &numbers)
 }

@@ -1,0 +1,2 @@
+-- The padded input.
+pub mod Padded
