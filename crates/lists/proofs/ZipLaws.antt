@@ -125,7 +125,8 @@ module _ (f : ℕ → ℕ → ℕ) where
   getD-before (suc a) (x ∷ xs) ys zero h = refl
   getD-before (suc a) (x ∷ xs) ys (suc i) h = getD-before a xs ys i (le-of-suc-le-suc h)
 
-  zipAt-more : (a : ℕ) (xs ys : List ℕ) (j : ℕ) → j < length ys
+  -- one place more
+  pub zipAt-more : (a : ℕ) (xs ys : List ℕ) (j : ℕ) → j < length ys
       → set (zipAt f a xs (take j ys)) (a + j) (f (getD (zipAt f a xs (take j ys)) (a + j) 0) (getD ys j 0)) ≡ zipAt f a xs (take (suc j) ys)
   unfolding zipAt zipInto
   zipAt-more zero xs ys j h = rw zero-add (zip-more f xs ys j h)
