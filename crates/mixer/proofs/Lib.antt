@@ -1,4 +1,4 @@
 -- The laws of words and of G.
 pub mod WordLaws
-pub mod UndoG
+pub mod GLaws
 pub mod Cases

@@ -8,7 +8,7 @@ use lib.Seq.{getD-set-same, getD-set-other, set-getD, set-set, set-comm}
 use Rattle.mixer.specs.declared.Words.{Words}
 use Rattle.mixer.specs.Addition.{Addition, Undoes}
 use Rattle.mixer.specs.G.{G, unG}
-use Rattle.mixer.proofs.UndoG.{FourWords, G-words, G-undo}
+use Rattle.mixer.proofs.GLaws.{FourWords, G-words, G-undo}
 use Rattle.profile.specs.declared.Quad.{Quad}
 use Rattle.profile.specs.Profile.{quads}
 use Rattle.lists.proofs.Words.{AllWords}

@@ -1,4 +1,3 @@
-use mathlib.Core.Path.{refl}
 use native.Mathlib.Omega.{arith}
 use Rattle.profile.specs.Profile.{start, startingWords}
 use Rattle.profile.proofs.Profile.start.Statement.{statement}
@@ -8,4 +7,4 @@ pub start-spec : {M : Type 1} → statement M
 unfolding start startingWords
 start-spec =
     tie.close
-    (tie.spec (omega arith) (omega arith) (omega arith) (omega arith) (omega arith) (omega arith) (omega arith) (omega arith) (λ c. refl))
+    (tie.spec (omega arith) (omega arith) (omega arith) (omega arith) (omega arith) (omega arith) (omega arith) (omega arith) (λ c. cc))

@@ -1,4 +1,4 @@
--- G takes words to words and is undone by its inverse, for every addition that can be undone. Assumes nothing.
+-- G by its steps; it takes words to words and is undone by its inverse, for every addition that can be undone. Assumes nothing.
 use mathlib.Core.Path.{_≡_, ap, _∙_}
 use Prim.Native.Nat.{ℕ, _-_, _^_, _≤_, _<_}
 use native.Mathlib.Omega.{arith}
@@ -8,6 +8,12 @@ use Rattle.mixer.specs.declared.Words.{Words}
 use Rattle.mixer.specs.Addition.{Addition, Undoes}
 use Rattle.mixer.specs.G.{halfG, G, unHalfG, unG}
 use Rattle.mixer.proofs.WordLaws.{xor-undo, turn-word, turn-undo}
+
+-- the four steps of a half, one after another
+pub halfG-steps : (sum : ℕ → ℕ → ℕ) (m n : ℕ) (w : Words) (a b c d : ℕ) → a ≡ sum (w .a) (w .b) → d ≡ turnRight m (bitXor (w .d) a)
+    → c ≡ sum (w .c) d → b ≡ turnRight n (bitXor (w .b) c) → _≡_ {A = Words} (record { a = a; b = b; c = c; d = d }) (halfG sum m n w)
+unfolding halfG
+halfG-steps sum m n w a b c d ea ed ec eb = cc
 
 -- four words
 pub record FourWords (w : Words) : Type 0 where

@@ -1,0 +1,1 @@
+pub use Rattle.mixer.proofs.WordLaws.{xor-undo, plain-undoes}
