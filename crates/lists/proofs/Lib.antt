@@ -1,6 +1,7 @@
 -- The laws of lists of words.
 pub mod Words
 pub mod ZipLaws
+pub mod Placed
 pub mod LoopLaws
 pub mod Parts
 pub mod Traces

@@ -125,21 +125,13 @@ module _ (f : ℕ → ℕ → ℕ) where
   getD-before (suc a) (x ∷ xs) ys zero h = refl
   getD-before (suc a) (x ∷ xs) ys (suc i) h = getD-before a xs ys i (le-of-suc-le-suc h)
 
-  zipAt-more : (a : ℕ) (xs ys : List ℕ) (j : ℕ) → j < length ys
+  -- one place more
+  pub zipAt-more : (a : ℕ) (xs ys : List ℕ) (j : ℕ) → j < length ys
       → set (zipAt f a xs (take j ys)) (a + j) (f (getD (zipAt f a xs (take j ys)) (a + j) 0) (getD ys j 0)) ≡ zipAt f a xs (take (suc j) ys)
   unfolding zipAt zipInto
   zipAt-more zero xs ys j h = rw zero-add (zip-more f xs ys j h)
   zipAt-more (suc a) [] ys j h = refl
   zipAt-more (suc a) (x ∷ xs) ys j h = rw suc-add (ap (λ (l : List ℕ). x ∷ l) (zipAt-more a xs ys j h))
-
-  -- the two steps of a loop over n places from place a on
-  module _ (a : ℕ) (xs ys s : List ℕ) (j n : ℕ) (l : length ys ≡ n) (inv : s ≡ zipAt f a xs (take j ys)) where
-    pub zipAt-again : (v : ℕ) → j < n → v ≡ getD ys j 0 → set s (a + j) (f (getD s (a + j) 0) v) ≡ zipAt f a xs (take (suc j) ys)
-    zipAt-again v h e =
-        ap₂ (λ (t : List ℕ) (w : ℕ). set t (a + j) (f (getD t (a + j) 0) w)) inv e ∙ zipAt-more a xs ys j (omega arith)
-
-    pub zipAt-end : n ≤ j → s ≡ zipAt f a xs ys
-    zipAt-end h = inv ∙ ap (zipAt f a xs) (take-all j ys (omega arith))
 
 pub tabulate-words : (n : ℕ) (f : ℕ → ℕ) → ((i : ℕ) → f i < 2 ^ 64) → AllWords (tabulate n f)
 unfolding tabulate

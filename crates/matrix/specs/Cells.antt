@@ -4,11 +4,11 @@ use mathlib.Core.List.{List}
 use lib.ListN.{take, drop, getD}
 use lib.Bits.{bitXor}
 use Rattle.lists.specs.Zip.{zipAt, tabulate}
-use Rattle.sponge.specs.Profile.{cellWords}
+use Rattle.profile.specs.Profile.{cellWords}
 
 -- the first word of a cell
 abbrev pub place : ℕ → ℕ → ℕ → ℕ
-place C row col = 12 * (row * C + col)
+place C row col = cellWords * (row * C + col)
 
 -- the cell that starts at a word
 unfoldable pub cellFrom : ℕ → List ℕ → List ℕ
@@ -27,4 +27,4 @@ xorCell C row col words m = zipAt bitXor (place C row col) m words
 
 -- a cell rotated by ω words, which document 01 names rot
 unfoldable pub rotated : ℕ → List ℕ → List ℕ
-rotated ω words = tabulate cellWords (λ j. getD words ((j + ω) % 12) 0)
+rotated ω words = tabulate cellWords (λ j. getD words ((j + ω) % cellWords) 0)

@@ -1,9 +1,11 @@
 // The lent matrix: its cells, and what is written to them from the sponge's output.
+use profile::Profile;
 ghost use mathlib.Core.Path.{_≡_};
 ghost use Prim.Native.Nat.{_+_, _*_, _≤_, _<_, _^_};
 ghost use lib.ListN.{length};
 ghost use lib.Bits.{bitXor};
 ghost use Rattle.lists.specs.Zip.{zipAt, xorInto};
+ghost use Rattle.profile.specs.Profile.{cellWords};
 ghost use Rattle.matrix.specs.Cells.{place, cellFrom, cellAt, rotated};
 
 // Rows and columns count different things; neither can be given where the other belongs.
@@ -16,28 +18,28 @@ pub fn cell_start(row: Row, col: Column, columns: usize) -> usize
     requires { ⌜ place columns (row .0) (col .0) < 2 ^ 64 ⌝ }
     ensures { λ r. ⌜ r ≡ place columns (row .0) (col .0) ⌝ }
 {
-    12 * (row.0 * columns + col.0)
+    Profile::CELL_WORDS * (row.0 * columns + col.0)
 }
 
 // The twelve words of a cell, as a part of the matrix.
 pub fn cell(m: &[u64], row: Row, col: Column, columns: usize) -> &[u64]
-    requires { ⌜ place columns (row .0) (col .0) + 12 ≤ length (now m) ⌝ }
+    requires { ⌜ place columns (row .0) (col .0) + cellWords ≤ length (now m) ⌝ }
     ensures { λ r. ⌜ now r ≡ cellAt columns (row .0) (col .0) (now (m .entry)) ⌝ }
-    ensures { λ r. ⌜ length (now r) ≡ 12 ⌝ }
+    ensures { λ r. ⌜ length (now r) ≡ cellWords ⌝ }
 {
     let a = cell_start(row, col, columns);
-    let e = a + 12;
+    let e = a + Profile::CELL_WORDS;
     &m[a..e]
 }
 
 // A cell is written from words that the caller has copied: the compiler then knows that no store to the matrix changes them.
 // Twelve words put in place of the cell that starts at a.
 pub fn put_cell(m: &mut [u64], a: usize, words: &[u64])
-    requires { ⌜ (a + 12 ≤ length (now m)) × (length (now words) ≡ 12) ⌝ }
+    requires { ⌜ (a + cellWords ≤ length (now m)) × (length (now words) ≡ cellWords) ⌝ }
     ensures { λ _. ⌜ now (m .exit) ≡ zipAt (λ x y. y) a (now (m .entry)) (now (words .entry)) ⌝ }
 {
     let mut j = 0;
-    while j < 12 {
+    while j < Profile::CELL_WORDS {
         m[a + j] = words[j];
         j += 1;
     }
@@ -45,11 +47,11 @@ pub fn put_cell(m: &mut [u64], a: usize, words: &[u64])
 
 // The cell that starts at a, XORed with twelve words, put in place of the later cell that starts at b.
 pub fn put_xored(m: &mut [u64], a: usize, b: usize, words: &[u64])
-    requires { ⌜ (a + 12 ≤ b) × (b + 12 ≤ length (now m)) × (length (now words) ≡ 12) ⌝ }
+    requires { ⌜ (a + cellWords ≤ b) × (b + cellWords ≤ length (now m)) × (length (now words) ≡ cellWords) ⌝ }
     ensures { λ _. ⌜ now (m .exit) ≡ zipAt (λ x y. y) b (now (m .entry)) (xorInto (cellFrom a (now (m .entry))) (now (words .entry))) ⌝ }
 {
     let mut j = 0;
-    while j < 12 {
+    while j < Profile::CELL_WORDS {
         m[b + j] = m[a + j] ^ words[j];
         j += 1;
     }
@@ -57,11 +59,11 @@ pub fn put_xored(m: &mut [u64], a: usize, b: usize, words: &[u64])
 
 // Twelve words XORed into the cell that starts at a.
 pub fn xor_cell(m: &mut [u64], a: usize, words: &[u64])
-    requires { ⌜ (a + 12 ≤ length (now m)) × (length (now words) ≡ 12) ⌝ }
+    requires { ⌜ (a + cellWords ≤ length (now m)) × (length (now words) ≡ cellWords) ⌝ }
     ensures { λ _. ⌜ now (m .exit) ≡ zipAt bitXor a (now (m .entry)) (now (words .entry)) ⌝ }
 {
     let mut j = 0;
-    while j < 12 {
+    while j < Profile::CELL_WORDS {
         m[a + j] = m[a + j] ^ words[j];
         j += 1;
     }
@@ -69,12 +71,12 @@ pub fn xor_cell(m: &mut [u64], a: usize, words: &[u64])
 
 // Twelve words, rotated by two, XORed into the cell that starts at a.
 pub fn xor_rotated(m: &mut [u64], a: usize, words: &[u64])
-    requires { ⌜ (a + 12 ≤ length (now m)) × (length (now words) ≡ 12) ⌝ }
+    requires { ⌜ (a + cellWords ≤ length (now m)) × (length (now words) ≡ cellWords) ⌝ }
     ensures { λ _. ⌜ now (m .exit) ≡ zipAt bitXor a (now (m .entry)) (rotated 2 (now (words .entry))) ⌝ }
 {
     let mut j = 0;
-    while j < 12 {
-        m[a + j] = m[a + j] ^ words[(j + 2) % 12];
+    while j < Profile::CELL_WORDS {
+        m[a + j] = m[a + j] ^ words[(j + 2) % Profile::CELL_WORDS];
         j += 1;
     }
 }

@@ -3,4 +3,3 @@ pub mod WordLaws
 pub mod State
 pub mod Quads
 pub mod Undo
-pub mod Cases

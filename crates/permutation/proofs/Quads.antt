@@ -1,14 +1,15 @@
 -- The table of quads: each quad has four distinct positions of the state. Assumes nothing.
-use mathlib.Core.Path.{_≡_, refl}
+use mathlib.Core.Path.{_≡_, ap}
 use mathlib.Core.Logic.{_≢_}
-use Prim.Native.Nat.{ℕ, zero, suc, _<_}
+use Prim.Native.Nat.{ℕ, zero, suc, _≤_, _<_}
 use native.Mathlib.Omega.{arith}
 use native.Mathlib.Nat.{not-suc-le-zero, le-of-suc-le-suc}
 use mathlib.Core.List.{List, [], _∷_}
-use lib.ListN.{length, getD, drop}
+use lib.ListN.{length, getD, drop, drop-of-length-le}
 use lib.Seq.{drop-cons}
-use Rattle.permutation.specs.declared.Quad.{Quad}
-use Rattle.permutation.specs.Round.{quads, applyG, applyAll}
+use Rattle.profile.specs.declared.Quad.{Quad}
+use Rattle.profile.specs.Profile.{quads}
+use Rattle.permutation.specs.Round.{applyG, applyAll}
 
 pub record Spread (q : Quad) : Type 0 where
   pub in0 : q .0 < 16
@@ -37,11 +38,16 @@ unfolding quads
 quads-spread =
     (omega arith, (omega arith, (omega arith, (omega arith, (omega arith, (omega arith, (omega arith, (omega arith, tt))))))))
 
-pub quad-spread : (d : Quad) (n : ℕ) → n < 8 → Spread (getD quads n d)
+pub quad-spread : (table : List Quad) (d : Quad) (n : ℕ) → table ≡ quads → n < 8 → Spread (getD table n d)
 unfolding quads
-quad-spread d n h = each-at Spread quads d quads-spread n h
+quad-spread table d n e h = rw e (each-at Spread quads d quads-spread n h)
 
--- one quad more
-pub applyAll-step : (sum : ℕ → ℕ → ℕ) (qs : List Quad) (d : Quad) (n : ℕ) (s : List ℕ) → n < length qs → applyAll sum (drop n qs) s ≡ applyAll sum (drop (suc n) qs) (applyG sum (getD qs n d) s)
-unfolding applyAll
-applyAll-step sum qs d n s h = rw (drop-cons qs n d)
+-- a loop over a table: one quad more, and the end
+module _ (sum : ℕ → ℕ → ℕ) (qs : List Quad) (n : ℕ) (s : List ℕ) where
+  pub applyAll-step : (d : Quad) → n < length qs → applyAll sum (drop n qs) s ≡ applyAll sum (drop (suc n) qs) (applyG sum (getD qs n d) s)
+  unfolding applyAll
+  applyAll-step d h = rw (drop-cons qs n d)
+
+  pub applyAll-end : length qs ≤ n → applyAll sum (drop n qs) s ≡ s
+  unfolding applyAll
+  applyAll-end h = ap (λ (rest : List Quad). applyAll sum rest s) (drop-of-length-le qs {i = n} h)

@@ -1,73 +1,21 @@
--- G, the round and n rounds keep states and are undone by their inverses, for every addition that can be undone.
--- Assumes nothing.
-use mathlib.Core.Path.{_≡_, refl, sym, ap, ap₂, _∙_}
-use mathlib.Core.Logic.{_≢_}
-use Prim.Native.Nat.{ℕ, zero, suc, _+_, _-_, _^_, _≤_, _<_}
+-- The round and n rounds keep states and are undone by their inverses, for every addition that can be undone. Assumes nothing.
+use mathlib.Core.Path.{_≡_, refl, sym, ap, _∙_}
+use Prim.Native.Nat.{ℕ, zero, suc, _^_, _<_}
 use native.Mathlib.Omega.{arith}
 use mathlib.Core.List.{List, [], _∷_}
 use lib.ListN.{length, getD, set, length-set}
 use lib.Seq.{getD-set-same, getD-set-other, set-getD, set-set, set-comm}
-use lib.Bits.{bitXor, xor-lt}
-use Rattle.permutation.specs.Word.{turnRight}
-use Rattle.permutation.specs.declared.Words.{Words}
-use Rattle.permutation.specs.declared.Quad.{Quad}
-use Rattle.permutation.specs.Round.{halfG, G, wordsAt, putWords, applyG, applyAll, quads, round, rounds}
-use Rattle.permutation.specs.Inverse.{Addition, Undoes, unHalfG, unG, unapplyG, unapplyAll, unround, unrounds}
-use Rattle.permutation.proofs.WordLaws.{xor-undo, turn-word, turn-undo}
+use Rattle.mixer.specs.declared.Words.{Words}
+use Rattle.mixer.specs.Addition.{Addition, Undoes}
+use Rattle.mixer.specs.G.{G, unG}
+use Rattle.mixer.proofs.GLaws.{FourWords, G-words, G-undo}
+use Rattle.profile.specs.declared.Quad.{Quad}
+use Rattle.profile.specs.Profile.{quads}
 use Rattle.lists.proofs.Words.{AllWords}
+use Rattle.permutation.specs.Round.{wordsAt, putWords, applyG, applyAll, round, rounds}
+use Rattle.permutation.specs.Inverse.{unapplyG, unapplyAll, unround, unrounds}
 use Rattle.permutation.proofs.State.{IsState, set-state}
 use Rattle.permutation.proofs.Quads.{Spread, Each, quads-spread}
-
--- four words
-pub record FourWords (w : Words) : Type 0 where
-  pub a : w .a < 2 ^ 64
-  pub b : w .b < 2 ^ 64
-  pub c : w .c < 2 ^ 64
-  pub d : w .d < 2 ^ 64
-
-turned-word : (n : ℕ) → n ≤ 64 → (x y : ℕ) → x < 2 ^ 64 → y < 2 ^ 64 → turnRight n (bitXor x y) < 2 ^ 64
-turned-word n hn x y hx hy = turn-word n (64 - n) (omega arith) (bitXor x y) (xor-lt 64 x y hx hy)
-
--- an XOR and a turn are undone by the other turn and the same XOR
-turned-undo : (n : ℕ) → n ≤ 64 → (x y : ℕ) → x < 2 ^ 64 → y < 2 ^ 64 → bitXor (turnRight (64 - n) (turnRight n (bitXor x y))) y ≡ x
-turned-undo n hn x y hx hy =
-    ap (λ (z : ℕ). bitXor z y) (turn-undo n (64 - n) (omega arith) (bitXor x y) (xor-lt 64 x y hx hy)) ∙ xor-undo x y
-
--- ---- G
-
-module _ {A : Addition} (u : Undoes A) (m n : ℕ) (hm : m ≤ 64) (hn : n ≤ 64) where
-  halfG-words : (w : Words) → FourWords w → FourWords (halfG (A .sum) m n w)
-  unfolding halfG
-  halfG-words w h =
-      let ha = u .sum-word (w .a) (w .b) (h .a) (h .b) in
-      let hd = turned-word m hm (w .d) (A .sum (w .a) (w .b)) (h .d) ha in
-      let hc = u .sum-word (w .c) (turnRight m (bitXor (w .d) (A .sum (w .a) (w .b)))) (h .c) hd in
-      record { a = ha; b = turned-word n hn (w .b) _ (h .b) hc; c = hc; d = hd }
-
-  halfG-undo : (w : Words) → FourWords w → unHalfG (A .back) m n (halfG (A .sum) m n w) ≡ w
-  unfolding halfG unHalfG
-  halfG-undo w h =
-      let ha = u .sum-word (w .a) (w .b) (h .a) (h .b) in
-      let hd = turned-word m hm (w .d) (A .sum (w .a) (w .b)) (h .d) ha in
-      let hc = u .sum-word (w .c) (turnRight m (bitXor (w .d) (A .sum (w .a) (w .b)))) (h .c) hd in
-      let eb = turned-undo n hn (w .b) (A .sum (w .c) (turnRight m (bitXor (w .d) (A .sum (w .a) (w .b))))) (h .b) hc in
-      let ed = turned-undo m hm (w .d) (A .sum (w .a) (w .b)) (h .d) ha in
-      let ec = u .sum-back (w .c) (turnRight m (bitXor (w .d) (A .sum (w .a) (w .b)))) (h .c) hd in
-      let ea = ap (A .back (A .sum (w .a) (w .b))) eb ∙ u .sum-back (w .a) (w .b) (h .a) (h .b) in
-      λ i. record { a = ea i; b = eb i; c = ec i; d = ed i }
-
-module _ {A : Addition} (u : Undoes A) where
-  pub G-words : (w : Words) → FourWords w → FourWords (G (A .sum) w)
-  unfolding G
-  G-words w h =
-      halfG-words u 16 63 (omega arith) (omega arith) _ (halfG-words u 32 24 (omega arith) (omega arith) w h)
-
-  pub G-undo : (w : Words) → FourWords w → unG (A .back) (G (A .sum) w) ≡ w
-  unfolding G unG
-  G-undo w h =
-      ap (unHalfG (A .back) 32 24)
-      (halfG-undo u 16 63 (omega arith) (omega arith) _ (halfG-words u 32 24 (omega arith) (omega arith) w h))
-      ∙ halfG-undo u 32 24 (omega arith) (omega arith) w h
 
 -- ---- G at four distinct positions
 

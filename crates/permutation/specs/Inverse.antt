@@ -1,42 +1,11 @@
--- The inverses of G, of the round and of n rounds. An addition comes with the difference that undoes it.
-use mathlib.Core.Path.{_≡_}
-use Prim.Native.Nat.{ℕ, zero, suc, _+_, _-_, _%_, _^_, _<_}
+-- The inverses of the round and of n rounds.
+use Prim.Native.Nat.{ℕ, zero, suc}
 use mathlib.Core.List.{List, [], _∷_}
-use lib.Bits.{bitXor}
-use Rattle.permutation.specs.Word.{turnRight, plainSum}
-use Rattle.permutation.specs.declared.Words.{Words}
-use Rattle.permutation.specs.declared.Quad.{Quad}
-use Rattle.permutation.specs.Round.{wordsAt, putWords, quads}
-
--- an addition of words, and the difference that is to undo it where the second operand is known
-pub record Addition : Type 0 where
-  pub sum : ℕ → ℕ → ℕ
-  pub back : ℕ → ℕ → ℕ
-
--- words go to words, and the difference does undo the sum
-pub record Undoes (A : Addition) : Type 0 where
-  pub sum-word : (a b : ℕ) → a < 2 ^ 64 → b < 2 ^ 64 → A .sum a b < 2 ^ 64
-  pub back-word : (a b : ℕ) → a < 2 ^ 64 → b < 2 ^ 64 → A .back a b < 2 ^ 64
-  pub sum-back : (a b : ℕ) → a < 2 ^ 64 → b < 2 ^ 64 → A .back (A .sum a b) b ≡ a
-
--- the difference that undoes plainSum
-abbrev pub plainBack : ℕ → ℕ → ℕ
-plainBack a b = (a + (2 ^ 64 - b)) % 2 ^ 64
-
-abbrev pub plain : Addition
-plain = record { sum = plainSum; back = plainBack }
-
--- halfG undone, its last step first
-unfoldable pub unHalfG : (ℕ → ℕ → ℕ) → ℕ → ℕ → Words → Words
-unHalfG back m n w =
-    let b = bitXor (turnRight (64 - n) (w .b)) (w .c) in
-    let c = back (w .c) (w .d) in
-    let d = bitXor (turnRight (64 - m) (w .d)) (w .a) in
-    let a = back (w .a) b in
-    record { a = a; b = b; c = c; d = d }
-
-unfoldable pub unG : (ℕ → ℕ → ℕ) → Words → Words
-unG back w = unHalfG back 32 24 (unHalfG back 16 63 w)
+pub use Rattle.mixer.specs.Addition.{Addition, Undoes, plainBack, plain}
+use Rattle.mixer.specs.G.{unG}
+use Rattle.profile.specs.declared.Quad.{Quad}
+use Rattle.profile.specs.Profile.{quads}
+use Rattle.permutation.specs.Round.{wordsAt, putWords}
 
 unfoldable pub unapplyG : (ℕ → ℕ → ℕ) → Quad → List ℕ → List ℕ
 unapplyG back q s = putWords q (unG back (wordsAt q s)) s

@@ -1,4 +1,4 @@
--- The permutation, in document 01's order: words, then G, the round and n rounds, and the inverses of these.
+-- The round and n rounds over G, and their inverses; the definitions of words and of G are passed on from the crate below.
 pub mod Word
 pub mod Round
 pub mod Inverse

@@ -1,23 +1,11 @@
--- G, the round and n rounds. The addition of G is a parameter; the profile's is plainSum.
+-- The round and n rounds.
 use Prim.Native.Nat.{ℕ, zero, suc}
 use mathlib.Core.List.{List, [], _∷_}
-use lib.Bits.{bitXor}
 use lib.ListN.{getD, set}
-use Rattle.permutation.specs.Word.{turnRight}
-use Rattle.permutation.specs.declared.Words.{Words}
-use Rattle.permutation.specs.declared.Quad.{Quad}
-
--- half of G, with the distances of its two turns
-unfoldable pub halfG : (ℕ → ℕ → ℕ) → ℕ → ℕ → Words → Words
-halfG sum m n w =
-    let a = sum (w .a) (w .b) in
-    let d = turnRight m (bitXor (w .d) a) in
-    let c = sum (w .c) d in
-    let b = turnRight n (bitXor (w .b) c) in
-    record { a = a; b = b; c = c; d = d }
-
-unfoldable pub G : (ℕ → ℕ → ℕ) → Words → Words
-G sum w = halfG sum 16 63 (halfG sum 32 24 w)
+unfoldable pub use Rattle.mixer.specs.G.{G}
+use Rattle.mixer.specs.declared.Words.{Words}
+use Rattle.profile.specs.declared.Quad.{Quad}
+use Rattle.profile.specs.Profile.{quads}
 
 -- the words of a state at four positions
 unfoldable pub wordsAt : Quad → List ℕ → Words
@@ -35,14 +23,6 @@ applyG sum q s = putWords q (G sum (wordsAt q s)) s
 unfoldable pub applyAll : (ℕ → ℕ → ℕ) → List Quad → List ℕ → List ℕ
 applyAll sum [] s = s
 applyAll sum (q ∷ qs) s = applyAll sum qs (applyG sum q s)
-
--- columns, then diagonals
-unfoldable pub quads : List Quad
-quads =
-    record { 0 = 0; 1 = 4; 2 = 8; 3 = 12 } ∷ record { 0 = 1; 1 = 5; 2 = 9; 3 = 13 }
-    ∷ record { 0 = 2; 1 = 6; 2 = 10; 3 = 14 } ∷ record { 0 = 3; 1 = 7; 2 = 11; 3 = 15 }
-    ∷ record { 0 = 0; 1 = 5; 2 = 10; 3 = 15 } ∷ record { 0 = 1; 1 = 6; 2 = 11; 3 = 12 }
-    ∷ record { 0 = 2; 1 = 7; 2 = 8; 3 = 13 } ∷ record { 0 = 3; 1 = 4; 2 = 9; 3 = 14 } ∷ []
 
 unfoldable pub round : (ℕ → ℕ → ℕ) → List ℕ → List ℕ
 round sum s = applyAll sum quads s

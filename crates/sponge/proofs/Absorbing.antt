@@ -11,10 +11,10 @@ use Rattle.lists.proofs.Words.{AllWords, each-words}
 use Rattle.lists.proofs.ZipLaws.{length-zip, zip-undo, zip-inj, xor-words}
 use Rattle.permutation.specs.Round.{rounds}
 use Rattle.permutation.specs.Inverse.{Addition, Undoes, unrounds}
-use Rattle.permutation.proofs.WordLaws.{xor-undo, xor-undo-left}
+use Rattle.mixer.proofs.WordLaws.{xor-undo, xor-undo-left}
 use Rattle.permutation.proofs.State.{IsState}
 use Rattle.permutation.proofs.Undo.{rounds-state, rounds-undo}
-use Rattle.sponge.specs.Profile.{start, startingWords}
+use Rattle.profile.specs.Profile.{start, startingWords}
 use Rattle.sponge.specs.Sponge.{absorb, unabsorb}
 
 pub start-state : IsState start

@@ -5,7 +5,7 @@ use mathlib.Core.List.{List}
 use lib.ListN.{length, getD}
 use Rattle.lists.proofs.Words.{AllWords}
 use Rattle.lists.proofs.ZipLaws.{length-tabulate, getD-tabulate, tabulate-words}
-use Rattle.sponge.specs.Sponge.{rand}
+use Rattle.rate.specs.Rate.{rand}
 
 pub length-rand : (s : List ℕ) → length (rand s) ≡ 12
 unfolding rand

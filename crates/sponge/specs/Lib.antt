@@ -1,3 +1,3 @@
--- The sponge over the permutation: the fixed numbers, absorbing and duplexing.
+-- The sponge over the permutation: absorbing and duplexing, with what the crates below it define.
 pub mod Profile
 pub mod Sponge

@@ -1,0 +1,4 @@
+-- The laws of words and of G.
+pub mod WordLaws
+pub mod GLaws
+pub mod Cases

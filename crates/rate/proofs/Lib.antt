@@ -1,0 +1,2 @@
+-- The laws of sums of cells.
+pub mod Sums

@@ -1,0 +1,2 @@
+-- The words of the state that take what is absorbed and give the output.
+pub mod Rate
