@@ -4,7 +4,7 @@ use mathlib.Core.List.{List}
 use lib.ListN.{getD}
 use Rattle.lists.specs.Zip.{xorInto}
 use Rattle.permutation.specs.Round.{rounds}
-use Rattle.sponge.specs.Profile.{cellWords}
+use Rattle.profile.specs.Profile.{cellWords}
 use Rattle.sponge.specs.Sponge.{absorb, rand, cellSum}
 use Rattle.settings.specs.Settings.{Settings}
 use Rattle.matrix.specs.Cells.{cellAt, putCell, xorCell, rotated}

@@ -1,91 +1,77 @@
 -- The two ways an answer goes, and the bounds of the counts. Assumes nothing.
-use mathlib.Core.Path.{_≡_, sym, ap, ap₂, _∙_}
-use Prim.Native.Nat.{ℕ, _+_, _*_, _≤_, _<_, _^_}
+use mathlib.Core.Path.{_≡_, refl, sym, ap, _∙_}
+use Prim.Native.Nat.{ℕ, _+_, _*_, _≤_}
 use native.Mathlib.Omega.{arith}
-use mathlib.Core.Bool.{Bool, false, cond}
+use native.Mathlib.Nat.{le-trans, mul-le-mul, mul-add, mul-one, mul-right-comm, add-comm}
 use native.Mathlib.Decide.{ℕ-discrete}
+use mathlib.Core.Bool.{Bool, cond}
 use borrow.Author.Tests.{eq-eqb, ne-eqb}
-use Rattle.input.specs.Input.{blocks}
+use Rattle.settings.specs.Settings.{settings}
+use Rattle.settings.specs.declared.Parameters.{Parameters}
+use Rattle.settings.specs.declared.Lengths.{Lengths}
+use Rattle.padded_input.specs.Padded.{blocks}
+use Rattle.input.specs.Input.{inputBlocks}
 use Rattle.key.specs.Key.{pieces, callsBetween}
 use Rattle.key.proofs.KeyLaws.{pieces-calls}
-use Rattle.refusals.proofs.Accepted.{Bounds, cells-most}
-use Rattle.derivation.specs.Answers.{answered, spentOn, noCosts, costs, costAnswer, checked, checkAnswer}
+use Rattle.refusals.specs.Checks.{Accepted, costChecks}
+use Rattle.refusals.proofs.Accepted.{cells-most}
+use Rattle.derivation.specs.Answers.{answered, spentOn, noCosts, costs, costAnswer}
 use Rattle.derivation.specs.declared.Costs.{Costs}
-use Rattle.derivation.specs.declared.Checked.{Checked}
 use Rattle.derivation.specs.Cost.{fullCost, reducedCost}
-use Rattle.derivation.proofs.Sizes.{product-most}
 
-pub answered-yes : {A : Type 0} (n : ℕ) (a b : A) → n ≡ 0 → answered n a b ≡ a
-answered-yes n a b h = ap (λ (t : Bool). cond t a b) (eq-eqb n 0 h)
+pub answered-yes : {A : Type 0} {n : ℕ} (a b : A) {c : A} → n ≡ 0 → c ≡ a → c ≡ answered n a b
+unfolding answered
+answered-yes {n = n} a b h e = e ∙ sym (ap (λ (t : Bool). cond t a b) (eq-eqb n 0 h))
 
-pub answered-no : {A : Type 0} (n : ℕ) (a b : A) → (n ≡ 0 → ⊥) → answered n a b ≡ b
-answered-no n a b h = ap (λ (t : Bool). cond t a b) (ne-eqb n 0 h)
+pub answered-no : {A : Type 0} {n : ℕ} (a b : A) {c : A} → (n ≡ 0 → ⊥) → c ≡ b → c ≡ answered n a b
+unfolding answered
+answered-no {n = n} a b h e = e ∙ sym (ap (λ (t : Bool). cond t a b) (ne-eqb n 0 h))
 
-module _ (k p s T R C : ℕ) (b : Bounds k p s T R C) where
-  pub full-most : fullCost k p s ≤ 64
-  unfolding fullCost blocks pieces
-  full-most = omega arith
+pub answered-is : {A : Type 0} {n : ℕ} (a b : A) {c : A} → n ≡ 0 → c ≡ answered n a b → c ≡ a
+answered-is a b h e = e ∙ sym (answered-yes a b h refl)
 
-  pub reduced-most : reducedCost T R C ≤ 1073741824
-  reduced-most = omega (arith, product-most (R * C) (T + 1) 4194304 256 (cells-most R C (b .rows-most) (b .columns-most)) (omega arith))
+-- ---- the costs
 
--- the answer of the cost question and of a derivation
-module _ (n k p s T R C : ℕ) (r : Costs) where
-  pub cost-no : (number : ℕ) → number ≡ n → (number ≡ 0 → ⊥) → r ≡ noCosts number → r ≡ costAnswer n k p s T R C
+module _ (l : Lengths) (p : Parameters) where
+  pub cost-no : {n number : ℕ} {r : Costs} → number ≡ n → (n ≡ 0 → ⊥) → r ≡ noCosts number → r ≡ costAnswer n l p
   unfolding costAnswer
-  cost-no number e h f = f ∙ ap noCosts e ∙ sym (answered-no n _ _ (λ z. h (e ∙ z)))
+  cost-no e h f = answered-no _ _ h (f ∙ ap noCosts e)
 
-  pub cost-yes : n ≡ 0 → r ≡ costs k p s T R C → r ≡ costAnswer n k p s T R C
+  pub cost-yes : {n : ℕ} {r : Costs} → n ≡ 0 → r ≡ costs l p → r ≡ costAnswer n l p
   unfolding costAnswer
-  cost-yes z f = f ∙ sym (answered-yes n _ _ z)
+  cost-yes h f = answered-yes _ _ h f
 
--- the full calls as they are made: blocks and the last cell, then those between pieces of the key
-pub full-calls : (k p s full between : ℕ) → 1 ≤ k → full ≡ blocks p s 6 + 1 → between ≡ callsBetween k → full + between ≡ fullCost k p s
-unfolding fullCost
-full-calls k p s full between h e f = omega (arith, pieces-calls k h)
+  -- an answer's number is that of the refusal
+  pub number-is : (n : ℕ) → costAnswer n l p .refusal ≡ n
+  unfolding costAnswer costs spentOn noCosts
+  number-is n = go (ℕ-discrete n 0)
+    where
+      go : Dec (n ≡ 0) → costAnswer n l p .refusal ≡ n
+      go (yes z) = ap (λ (c : Costs). c .refusal) (sym (cost-yes {n = n} {r = costs l p} z refl)) ∙ sym z
+      go (no h) = ap (λ (c : Costs). c .refusal) (sym (cost-no {n = n} {number = n} {r = noCosts n} refl h refl))
 
--- the answer of a check
-module _ (n k p s T R C : ℕ) (same : Bool) (r : Checked) where
-  pub check-no : (number : ℕ) (c : Costs) → number ≡ n → (number ≡ 0 → ⊥) → c ≡ noCosts number → r ≡ checked c false → r ≡ checkAnswer n k p s T R C same
-  unfolding checkAnswer
-  check-no number c e h f g =
-      g ∙ ap (λ (x : Costs). checked x false) (f ∙ ap noCosts e) ∙ sym (answered-no n _ _ (λ z. h (e ∙ z)))
+  pub accepted-number : {n : ℕ} {r : Costs} → r ≡ costAnswer n l p → r .refusal ≡ 0 → n ≡ 0
+  accepted-number {n} e z = sym (number-is n) ∙ ap (λ (c : Costs). c .refusal) (sym e) ∙ z
 
-  pub check-yes : n ≡ 0 → r ≡ checked (costs k p s T R C) same → r ≡ checkAnswer n k p s T R C same
-  unfolding checkAnswer
-  check-yes z f = f ∙ sym (answered-yes n _ _ z)
+  -- ---- the counts of an accepted call
+  module _ (h : Accepted (costChecks l p)) where
+    pub full-most : fullCost l ≤ 64
+    unfolding fullCost inputBlocks blocks pieces costChecks
+    full-most = omega arith
 
--- ---- the fields of an answer
+    pub reduced-most : reducedCost (settings p) ≤ 1073741824
+    unfolding costChecks
+    reduced-most =
+        let more : p .time + 1 ≤ 256 = omega arith in
+        le-trans (mul-le-mul (cells-most (p .rows) (p .columns) (omega arith) (omega arith)) more) (omega arith)
 
--- by cases on the number
-answered-by : {A : Type 0} (n : ℕ) (a b c : A) → (n ≡ 0 → a ≡ c) → ((n ≡ 0 → ⊥) → b ≡ c) → answered n a b ≡ c
-answered-by n a b c f g = go (ℕ-discrete n 0)
-  where
-    go : Dec (n ≡ 0) → answered n a b ≡ c
-    go (yes z) = answered-yes n a b z ∙ f z
-    go (no h) = answered-no n a b h ∙ g h
+    -- the full calls as they are made: those of the input, of the last cell, and between pieces of the key
+    pub full-calls : {full last between : ℕ} → full ≡ inputBlocks l → last ≡ full + 1 → between ≡ callsBetween (l .key) → last + between ≡ fullCost l
+    unfolding fullCost costChecks
+    full-calls e f g = omega (arith, pieces-calls (l .key) (omega arith))
 
--- the first alternative may use that no check refused
-pub answered-inner : {A : Type 0} (n : ℕ) (a a′ b : A) → (n ≡ 0 → a ≡ a′) → answered n a b ≡ answered n a′ b
-answered-inner n a a′ b f =
-    answered-by n a b _ (λ z. f z ∙ sym (answered-yes n a′ b z)) (λ h. sym (answered-no n a′ b h))
-
-pub cost-refusal-is : (n k p s T R C : ℕ) → costAnswer n k p s T R C .refusal ≡ n
-unfolding costAnswer costs spentOn noCosts
-cost-refusal-is n k p s T R C = go (ℕ-discrete n 0)
-  where
-    go : Dec (n ≡ 0) → costAnswer n k p s T R C .refusal ≡ n
-    go (yes z) = ap (λ (c : Costs). c .refusal) (answered-yes n (costs k p s T R C) (noCosts n) z) ∙ sym z
-    go (no h) = ap (λ (c : Costs). c .refusal) (answered-no n (costs k p s T R C) (noCosts n) h)
-
--- a check's answer is the costs' with yes or no
-pub check-split : (n k p s T R C : ℕ) (same : Bool) → checkAnswer n k p s T R C same ≡ checked (costAnswer n k p s T R C) (answered n same false)
-unfolding checkAnswer costAnswer
-check-split n k p s T R C same =
-    answered-by n _ _ _
-    (λ z. sym (ap₂ checked (answered-yes n (costs k p s T R C) (noCosts n) z) (answered-yes n same false z)))
-    (λ h. sym (ap₂ checked (answered-no n (costs k p s T R C) (noCosts n) h) (answered-no n same false h)))
-
--- an equal number gives the same alternative
-pub answered-as : {A : Type 0} (n r : ℕ) (a b x : A) → x ≡ answered n a b → r ≡ n → x ≡ answered r a b
-answered-as n r a b x e f = e ∙ ap (λ (k : ℕ). answered k a b) (sym f)
+-- Setup's calls and those of the visits
+pub calls-sum : (R C T : ℕ) → R * C + R * T * C ≡ R * C * (T + 1)
+calls-sum R C T =
+    ap (λ (n : ℕ). R * C + n) (mul-right-comm R T C) ∙ add-comm (R * C) (R * C * T)
+    ∙ sym (mul-add (R * C) T 1 ∙ ap (λ (n : ℕ). R * C * T + n) (mul-one (R * C)))

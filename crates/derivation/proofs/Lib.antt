@@ -1,4 +1,2 @@
--- The laws of a derivation.
-pub mod Sizes
-pub mod Ends
+-- The laws of answers and of the counts.
 pub mod Answering

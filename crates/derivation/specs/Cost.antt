@@ -1,15 +1,16 @@
--- The calls of a derivation, from the lengths of key, password and salt, T, R and C.
+-- The calls of a derivation, and the rounds of all of them.
 use Prim.Native.Nat.{ℕ, _+_, _*_}
-use Rattle.sponge.specs.Profile.{fullRounds}
-use Rattle.input.specs.Input.{blocks}
+use Rattle.profile.specs.Profile.{fullRounds}
+use Rattle.settings.specs.Settings.{Settings}
+use Rattle.settings.specs.declared.Lengths.{Lengths}
+use Rattle.input.specs.Input.{inputBlocks}
 use Rattle.key.specs.Key.{pieces}
 
-unfoldable pub fullCost : ℕ → ℕ → ℕ → ℕ
-fullCost k p s = blocks p s 6 + pieces k
+unfoldable pub fullCost : Lengths → ℕ
+fullCost l = inputBlocks l + pieces (l .key)
 
-abbrev pub reducedCost : ℕ → ℕ → ℕ → ℕ
-reducedCost T R C = R * C * (T + 1)
+abbrev pub reducedCost : Settings → ℕ
+reducedCost S = S .rows * S .columns * (S .time + 1)
 
--- the rounds of all calls, where a reduced call has ρ
-abbrev pub roundsCost : ℕ → ℕ → ℕ → ℕ
-roundsCost ρ full reduced = fullRounds * full + ρ * reduced
+abbrev pub roundsCost : Settings → ℕ → ℕ → ℕ
+roundsCost S full reduced = fullRounds * full + S .rounds * reduced

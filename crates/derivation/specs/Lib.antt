@@ -1,4 +1,5 @@
--- A derivation as a whole, its costs, and the answers of the operations.
+-- A derivation as a whole, its costs, and what the operations promise.
 pub mod Derivation
 pub mod Cost
 pub mod Answers
+pub mod Contracts

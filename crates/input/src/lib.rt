@@ -2,9 +2,9 @@
 use padded_input::BLOCK_BYTES;
 use padded_input::NUMBER_BYTES;
 use padded_input::input_word;
+use profile::Profile;
 use settings::Parameters;
 use sponge::duplex::full_call;
-use sponge::profile::Profile;
 ghost use mathlib.Core.Path.{_≡_};
 ghost use Prim.Native.Nat.{_<_};
 ghost use lib.ListN.{length};

@@ -1,7 +1,7 @@
 // The padded input, byte by byte as it is asked for. No copy of the password is made.
 use little_endian::byte_of;
 use little_endian::widened;
-use sponge::profile::Profile;
+use profile::Profile;
 ghost use mathlib.Core.Path.{_≡_};
 ghost use Prim.Native.Nat.{_+_, _*_, _≤_, _<_};
 ghost use lib.ListN.{length, getD, take, drop};

@@ -1,12 +1,12 @@
 // When a call is turned down: each check by its number, in the order of the numbers. 0 is no refusal.
+use profile::Profile;
 use settings::Lengths;
 use settings::Parameters;
-use sponge::profile::Profile;
 ghost use mathlib.Core.Path.{_≡_};
 ghost use mathlib.Core.Bool.{cond};
 ghost use mathlib.Core.List.{[], _∷_};
 ghost use Prim.Native.Nat.{_+_, _*_, _≤_, _<_, _^_};
-ghost use Rattle.sponge.specs.Profile.{cellWords};
+ghost use Rattle.profile.specs.Profile.{cellWords};
 ghost use Rattle.refusals.specs.Checks.{first, outside as «is-outside», costChecks, plainChecks, recordedChecks, walkChecks, rowsCheck};
 
 pub const KEY_LENGTH: u32 = 1;
@@ -84,11 +84,7 @@ pub fn plain_refusal(l: Lengths, p: Parameters, matrix: usize) -> u32
     if number != 0 {
         return number;
     }
-    first_of(
-        matrix < matrix_words(p.rows * p.columns),
-        MATRIX_LENGTH,
-        0,
-    )
+    first_of(matrix < matrix_words(p.rows * p.columns), MATRIX_LENGTH, 0)
 }
 
 // The words that the record of n visits takes.

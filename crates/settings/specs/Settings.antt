@@ -1,7 +1,7 @@
 -- What a derivation goes by: what the caller gives, and what document 01 fixes now and may leave open later.
 use Prim.Native.Nat.{ℕ}
 use Rattle.permutation.specs.Inverse.{Addition, plain}
-use Rattle.sponge.specs.Profile.{reducedRounds}
+use Rattle.profile.specs.Profile.{reducedRounds}
 use Rattle.settings.specs.declared.Parameters.{Parameters}
 
 pub record Settings : Type 0 where

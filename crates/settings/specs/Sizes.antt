@@ -1,6 +1,6 @@
 -- How many words a derivation uses of what it is lent.
 use Prim.Native.Nat.{ℕ, _+_, _*_}
-use Rattle.sponge.specs.Profile.{cellWords}
+use Rattle.profile.specs.Profile.{cellWords}
 use Rattle.settings.specs.Settings.{Settings}
 
 -- the used matrix

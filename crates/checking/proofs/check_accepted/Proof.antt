@@ -1,0 +1,28 @@
+-- `check_accepted` meets its contract: the run, the last cell, then the comparison. Assumes nothing.
+use mathlib.Core.Path.{ap, _∙_}
+use native.Mathlib.Omega.{arith}
+use Rattle.key.specs.Key.{sameBytes}
+use Rattle.runs.proofs.Ends.{matrix-after, can-finish, key-after, counts-fit, costs-after}
+use Rattle.checking.proofs.check_accepted.Statement.{statement}
+use Rattle.checking.proofs.check_accepted.Tie as tie
+
+add-spent : tie.Need-add-spent
+add-spent c = omega (arith, counts-fit (c .before .before .before .before .before .before .before .before .before .before .run .ensures) (c .before .before .before .before .before .before .before .before .before .before .before .before .before .before .before .before .before .pre) (c .before .before .before .before .before .finish .ensures) (c .before .before .compare .ensures .2))
+
+spent-requires : tie.Need-spent-requires
+spent-requires c κs = omega (arith, counts-fit (c .before .before .before .before .before .before .before .before .before .before .run .ensures) (c .before .before .before .before .before .before .before .before .before .before .before .before .before .before .before .before .before .pre) (c .before .before .before .before .before .finish .ensures) (c .before .before .compare .ensures .2))
+
+returns : tie.Need-returns
+returns c =
+    let run = c .before .before .before .before .before .before .before .before .before .before .before .run .ensures in
+    let h = c .before .before .before .before .before .before .before .before .before .before .before .before .before .before .before .before .before .before .pre in
+    let end = c .before .before .before .before .before .before .finish .ensures in
+    let key = c .before .before .before .compare .ensures in
+    (costs-after run h end (key .2) (c .spent .ensures), key .0 ∙ ap (sameBytes _) (key-after run h end), matrix-after run)
+
+pub check-accepted-spec : {M : Type 1} → statement M
+check-accepted-spec =
+    tie.close
+    (tie.spec (omega arith) (λ c κs. c .before .before .before .before .before .before .pre)
+    (λ c κs. can-finish (c .before .before .before .before .run .ensures) (c .before .before .before .before .before .before .before .before .before .before .before .pre) (omega (arith, c .before .before .before .before .run .kept))) (omega arith) add-spent
+    spent-requires (omega arith) returns)

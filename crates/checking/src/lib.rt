@@ -1,0 +1,71 @@
+// The check of a stored key.
+use costs::refused;
+use costs::spent;
+use derivation::Costs;
+use key::compare;
+use refusals::plain_refusal;
+use runs::finish;
+use runs::run;
+use settings::Lengths;
+use settings::Parameters;
+ghost use mathlib.Core.Path.{_≡_};
+ghost use lib.ListN.{length};
+ghost use Rattle.settings.specs.Settings.{settings};
+ghost use Rattle.input.specs.Input.{input, lengths};
+ghost use Rattle.key.specs.Key.{sameBytes};
+ghost use Rattle.refusals.specs.Checks.{Accepted, plainChecks};
+ghost use Rattle.derivation.specs.Answers.{costs, flag};
+ghost use Rattle.derivation.specs.Derivation.{keyOf, endMatrix};
+ghost use Rattle.derivation.specs.Contracts.{Compared};
+
+// What a check answers.
+pub struct Checked {
+    pub costs: Costs,
+    pub same: bool,
+}
+
+// The check of a call that no check refuses.
+fn check_accepted(
+    password: &[u8],
+    salt: &[u8],
+    p: Parameters,
+    stored: &[u8],
+    matrix: &mut [u64],
+) -> Checked
+    requires { ⌜ Accepted (plainChecks (lengths (input (now password) (now salt) (length (now stored)))) p (length (now matrix))) ⌝ }
+    ensures { λ r. ⌜ (r .costs ≡ costs (lengths (input (now (password .entry)) (now (salt .entry)) (length (now (stored .entry))))) p) × (r .same ≡ sameBytes (now (stored .entry)) (keyOf (settings p) (input (now (password .entry)) (now (salt .entry)) (length (now (stored .entry)))) (now (matrix .entry)))) × (now (matrix .exit) ≡ endMatrix (settings p) (input (now (password .entry)) (now (salt .entry)) (length (now (stored .entry)))) (now (matrix .entry))) ⌝ }
+{
+    let mut none: [u64; 0] = [];
+    let ran = run(password, salt, stored.len(), p, matrix, &mut none);
+    let end = finish(ran, matrix, p);
+    let mut s = end.state;
+    let c = compare(&mut s, stored);
+    let costs = spent(end.full + c.calls, end.reduced, p);
+    Checked {
+        costs,
+        same: c.same,
+    }
+}
+
+// Whether a stored key is the key of its length. The matrix is left as by the plain derivation.
+pub fn check(
+    password: &[u8],
+    salt: &[u8],
+    p: Parameters,
+    stored: &[u8],
+    matrix: &mut [u64],
+) -> Checked
+    ensures { λ r. ⌜ Compared p (input (now (password .entry)) (now (salt .entry)) (length (now (stored .entry)))) (now (stored .entry)) (now (matrix .entry)) (now (matrix .exit)) (r .costs) (flag (r .same)) ⌝ }
+{
+    let l = Lengths {
+        key: stored.len(),
+        password: password.len(),
+        salt: salt.len(),
+    };
+    let number = plain_refusal(l, p, matrix.len());
+    if number != 0 {
+        let costs = refused(number);
+        return Checked { costs, same: false };
+    }
+    check_accepted(password, salt, p, stored, matrix)
+}

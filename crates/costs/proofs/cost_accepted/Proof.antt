@@ -1,0 +1,20 @@
+-- `cost_accepted` meets its contract: the two counts stay far below a word. Assumes nothing.
+use native.Mathlib.Omega.{arith}
+use Rattle.padded_input.specs.Padded.{blocks}
+use Rattle.input.specs.Input.{inputBlocks}
+use Rattle.refusals.specs.Checks.{costChecks}
+use Rattle.refusals.proofs.Accepted.{cells-most}
+use Rattle.derivation.specs.Answers.{costs}
+use Rattle.derivation.specs.Cost.{fullCost}
+use Rattle.derivation.proofs.Answering.{full-most, reduced-most}
+use Rattle.costs.proofs.cost_accepted.Statement.{statement}
+use Rattle.costs.proofs.cost_accepted.Tie as tie
+
+pub cost-accepted-spec : {M : Type 1} → statement M
+unfolding costs fullCost inputBlocks costChecks
+cost-accepted-spec =
+    tie.close
+    (tie.spec (omega arith) (omega arith) (λ c. omega (arith, full-most _ _ (c .before .before .pre)))
+    (λ c. omega (arith, cells-most (c .before .before .before .args .p .rows) (c .before .before .before .args .p .columns) (omega arith) (omega arith))) (omega arith)
+    (λ c. omega (arith, reduced-most _ _ (c .before .before .before .before .pre)))
+    (λ c κs. omega (arith, full-most _ _ (c .before .before .before .before .pre), reduced-most _ _ (c .before .before .before .before .pre))) (λ c. cc))

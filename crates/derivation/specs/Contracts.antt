@@ -1,0 +1,43 @@
+-- What the operations promise: the answer, and what they leave in each lent buffer. A buffer is `key` before the call and `key′` after
+-- it. The record of the visits is called `visited`. Which contract a call meets depends on nothing but these.
+use mathlib.Core.Path.{_≡_}
+use Prim.Native.Nat.{ℕ}
+use mathlib.Core.List.{List}
+use lib.ListN.{length, replicate}
+use Rattle.lists.specs.Zip.{putInto}
+use Rattle.profile.specs.Profile.{stateWords}
+use Rattle.settings.specs.Settings.{settings}
+use Rattle.settings.specs.declared.Parameters.{Parameters}
+use Rattle.input.specs.Input.{Input, lengths}
+use Rattle.key.specs.Key.{sameBytes}
+use Rattle.refusals.specs.Checks.{first, plainChecks, recordedChecks}
+use Rattle.derivation.specs.Answers.{answered, costAnswer, flag}
+use Rattle.derivation.specs.Derivation.{keyOf, endState, endMatrix, endRecord}
+use Rattle.derivation.specs.declared.Costs.{Costs}
+
+-- the number of the first refusal, 0 where there is none
+abbrev pub plainNumber : Parameters → Input → List ℕ → ℕ
+plainNumber p x matrix = first (plainChecks (lengths x) p (length matrix))
+
+abbrev pub recordedNumber : Parameters → Input → List ℕ → List ℕ → ℕ
+recordedNumber p x matrix visited = first (recordedChecks (lengths x) p (length matrix) (length visited))
+
+-- the plain derivation
+pub record Derived (p : Parameters) (x : Input) (key matrix key′ matrix′ : List ℕ) (r : Costs) : Type 0 where
+  pub answer : r ≡ costAnswer (plainNumber p x matrix) (lengths x) p
+  pub key-after : key′ ≡ answered (plainNumber p x matrix) (keyOf (settings p) x matrix) key
+  pub matrix-after : matrix′ ≡ answered (plainNumber p x matrix) (endMatrix (settings p) x matrix) matrix
+
+-- the check of a stored key, which answers 1 for yes
+pub record Compared (p : Parameters) (x : Input) (stored matrix matrix′ : List ℕ) (r : Costs) (same : ℕ) : Type 0 where
+  pub answer : r ≡ costAnswer (plainNumber p x matrix) (lengths x) p
+  pub same-is : same ≡ answered (plainNumber p x matrix) (flag (sameBytes stored (keyOf (settings p) x matrix))) 0
+  pub matrix-after : matrix′ ≡ answered (plainNumber p x matrix) (endMatrix (settings p) x matrix) matrix
+
+-- the recorded derivation, which also answers the state after the last visit
+pub record Recorded (p : Parameters) (x : Input) (key matrix visited key′ matrix′ visited′ : List ℕ) (r : Costs) (state : List ℕ) : Type 0 where
+  pub answer : r ≡ costAnswer (recordedNumber p x matrix visited) (lengths x) p
+  pub state-is : state ≡ answered (recordedNumber p x matrix visited) (endState (settings p) x matrix) (replicate stateWords 0)
+  pub key-after : key′ ≡ answered (recordedNumber p x matrix visited) (keyOf (settings p) x matrix) key
+  pub matrix-after : matrix′ ≡ answered (recordedNumber p x matrix visited) (endMatrix (settings p) x matrix) matrix
+  pub visited-after : visited′ ≡ answered (recordedNumber p x matrix visited) (putInto visited (endRecord (settings p) x matrix)) visited

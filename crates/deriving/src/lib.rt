@@ -1,0 +1,59 @@
+// The plain derivation.
+use costs::refused;
+use costs::spent;
+use derivation::Costs;
+use key::squeeze;
+use refusals::plain_refusal;
+use runs::finish;
+use runs::run;
+use settings::Lengths;
+use settings::Parameters;
+ghost use mathlib.Core.Path.{_≡_};
+ghost use lib.ListN.{length};
+ghost use Rattle.settings.specs.Settings.{settings};
+ghost use Rattle.input.specs.Input.{input, lengths};
+ghost use Rattle.refusals.specs.Checks.{Accepted, plainChecks};
+ghost use Rattle.derivation.specs.Answers.{costs};
+ghost use Rattle.derivation.specs.Derivation.{keyOf, endMatrix};
+ghost use Rattle.derivation.specs.Contracts.{Derived};
+
+// The plain derivation of a call that no check refuses.
+fn derive_accepted(
+    password: &[u8],
+    salt: &[u8],
+    p: Parameters,
+    key: &mut [u8],
+    matrix: &mut [u64],
+) -> Costs
+    requires { ⌜ Accepted (plainChecks (lengths (input (now password) (now salt) (length (now key)))) p (length (now matrix))) ⌝ }
+    ensures { λ r. ⌜ (r ≡ costs (lengths (input (now (password .entry)) (now (salt .entry)) (length (now (key .entry))))) p) × (now (key .exit) ≡ keyOf (settings p) (input (now (password .entry)) (now (salt .entry)) (length (now (key .entry)))) (now (matrix .entry))) × (now (matrix .exit) ≡ endMatrix (settings p) (input (now (password .entry)) (now (salt .entry)) (length (now (key .entry)))) (now (matrix .entry))) ⌝ }
+{
+    let mut none: [u64; 0] = [];
+    let ran = run(password, salt, key.len(), p, matrix, &mut none);
+    let end = finish(ran, matrix, p);
+    let mut s = end.state;
+    let between = squeeze(&mut s, key);
+    spent(end.full + between, end.reduced, p)
+}
+
+// The plain derivation: fills the key and the used matrix.
+pub fn derive(
+    password: &[u8],
+    salt: &[u8],
+    p: Parameters,
+    key: &mut [u8],
+    matrix: &mut [u64],
+) -> Costs
+    ensures { λ r. ⌜ Derived p (input (now (password .entry)) (now (salt .entry)) (length (now (key .entry)))) (now (key .entry)) (now (matrix .entry)) (now (key .exit)) (now (matrix .exit)) r ⌝ }
+{
+    let l = Lengths {
+        key: key.len(),
+        password: password.len(),
+        salt: salt.len(),
+    };
+    let number = plain_refusal(l, p, matrix.len());
+    if number != 0 {
+        return refused(number);
+    }
+    derive_accepted(password, salt, p, key, matrix)
+}

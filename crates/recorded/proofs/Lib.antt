@@ -1,2 +1,0 @@
--- The laws of the recorded derivation's contract.
-pub mod Contract

@@ -1,2 +1,0 @@
--- The recorded derivation.
-pub mod Recording

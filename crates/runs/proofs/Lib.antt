@@ -1,0 +1,2 @@
+-- What follows a run.
+pub mod Ends

@@ -1,0 +1,18 @@
+-- `finish` meets its contract: the first cell of the last row. Assumes nothing.
+use mathlib.Core.Path.{refl}
+use native.Mathlib.Omega.{arith}
+use Rattle.columns.proofs.RowLaws.{row-before}
+use Rattle.derivation.specs.Derivation.{finalState}
+use Rattle.runs.proofs.finish.Statement.{statement}
+use Rattle.runs.proofs.finish.Tie as tie
+
+cell-requires : tie.Need-cell-requires
+cell-requires c κs =
+    let a = c .before .before .before .args in
+    omega (arith, row-before (a .ran .row0 .0) (a .p .rows) (a .p .columns) (c .before .before .before .pre .1))
+
+pub finish-spec : {M : Type 1} → statement M
+unfolding finalState
+finish-spec =
+    tie.close
+    (tie.spec cell-requires (omega arith) (omega arith) (λ c. record { full = refl; reduced = refl; state-is = cc }))

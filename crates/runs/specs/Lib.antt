@@ -1,0 +1,2 @@
+-- What a run of the sponge over the matrix leaves.
+pub mod Runs

@@ -1,0 +1,111 @@
+// A run of the sponge over the matrix: the input, Setup and the visits, then the last cell.
+use input::absorb_input;
+use matrix::Column;
+use matrix::Row;
+use matrix::cell;
+use profile::Profile;
+use settings::Parameters;
+use setup::set_up;
+use sponge::duplex::absorb_cell;
+use wandering::wander;
+ghost use mathlib.Core.Path.{_≡_};
+ghost use Prim.Native.Nat.{_*_, _≤_, _<_, _^_};
+ghost use lib.ListN.{length};
+ghost use Rattle.lists.specs.Zip.{putInto};
+ghost use Rattle.settings.specs.Settings.{settings};
+ghost use Rattle.settings.specs.Sizes.{visitCount, matrixWords};
+ghost use Rattle.input.specs.Input.{input, lengths};
+ghost use Rattle.columns.specs.Columns.{work};
+ghost use Rattle.wandering.specs.Visits.{walk, wander, visits};
+ghost use Rattle.wandering.specs.Encoding.{encode};
+ghost use Rattle.refusals.specs.Checks.{Accepted, plainChecks};
+ghost use Rattle.derivation.specs.Cost.{reducedCost};
+ghost use Rattle.derivation.specs.Derivation.{setupEnd};
+ghost use Rattle.runs.specs.Runs.{Run, Finished};
+
+// What a run to the last visit leaves: the state, the last visit's rows, and the calls that were made.
+pub struct Ran {
+    pub state: [u64; 16],
+    pub row0: Row,
+    pub row1: Row,
+    pub full: u64,
+    pub reduced: u64,
+}
+
+// The rows of the last visit, and the reduced calls of Setup and the visits.
+struct Walked {
+    row0: Row,
+    row1: Row,
+    calls: u64,
+}
+
+// Setup and the visits; the record gets the visits as far as it reaches.
+fn walk(s: &mut [u64; 16], m: &mut [u64], p: Parameters, record: &mut [u64]) -> Walked
+    requires { ⌜ (3 ≤ p .rows) × (p .rows ≤ 16384) × (1 ≤ p .columns) × (p .columns ≤ 256) × (p .time ≤ 255) × (matrixWords (settings p) ≤ length (now m)) ⌝ }
+    ensures { λ r. ⌜ (r .calls ≡ reducedCost (settings p)) × (r .row0 .0 < p .rows) × (r .row1 .0 < p .rows) × (walk (work (now (s .exit)) (now (m .exit))) (r .row0 .0) (r .row1 .0) ≡ wander (settings p) (visitCount (settings p)) (setupEnd (settings p) (now (s .entry)) (now (m .entry)))) × (now («record» .exit) ≡ putInto (now («record» .entry)) (encode (visits (settings p) (visitCount (settings p)) (setupEnd (settings p) (now (s .entry)) (now (m .entry)))))) ⌝ }
+{
+    let set = set_up(s, m, p);
+    let v = wander(
+        s,
+        m,
+        Row(p.rows - 1),
+        Row(set.prev1),
+        p.rows * p.time,
+        p,
+        record,
+    );
+    let row0 = v.row0;
+    let row1 = v.row1;
+    Walked {
+        row0,
+        row1,
+        calls: set.calls + v.calls,
+    }
+}
+
+// From the starting state to the last visit of a call that no check refuses.
+pub fn run(
+    password: &[u8],
+    salt: &[u8],
+    key_length: usize,
+    p: Parameters,
+    m: &mut [u64],
+    record: &mut [u64],
+) -> Ran
+    requires { ⌜ Accepted (plainChecks (lengths (input (now password) (now salt) «key_length»)) p (length (now m))) ⌝ }
+    ensures { λ r. ⌜ Run p (input (now (password .entry)) (now (salt .entry)) «key_length») (now (m .entry)) (now («record» .entry)) (now (m .exit)) (now («record» .exit)) r ⌝ }
+{
+    let mut state = Profile::start();
+    let full = absorb_input(&mut state, password, salt, key_length, p);
+    let w = walk(&mut state, m, p, record);
+    let row0 = w.row0;
+    let row1 = w.row1;
+    Ran {
+        state,
+        row0,
+        row1,
+        full,
+        reduced: w.calls,
+    }
+}
+
+// The state that the key is squeezed from, and the calls that were made.
+pub struct Final {
+    pub state: [u64; 16],
+    pub full: u64,
+    pub reduced: u64,
+}
+
+// The last cell, absorbed with a full call.
+pub fn finish(ran: Ran, m: &[u64], p: Parameters) -> Final
+    requires { ⌜ (1 ≤ p .columns) × (ran .row0 .0 < p .rows) × (matrixWords (settings p) ≤ length (now m)) × (ran .full < 2 ^ 32) ⌝ }
+    ensures { λ r. ⌜ Finished p ran (now (m .entry)) r ⌝ }
+{
+    let mut state = ran.state;
+    absorb_cell(&mut state, cell(m, ran.row0, Column(0), p.columns));
+    Final {
+        state,
+        full: ran.full + 1,
+        reduced: ran.reduced,
+    }
+}
