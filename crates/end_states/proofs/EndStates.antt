@@ -2,54 +2,74 @@
 -- states, the used matrices and the used records are equal exactly where password, salt and key length are. It holds for every
 -- addition of G that can be undone, every number of rounds and every rotation, without visits too, and whatever the two matrices
 -- held. Assumes nothing.
-use mathlib.Core.Path.{_≡_, refl}
+use mathlib.Core.Path.{_≡_, sym, ap, _∙_}
 use mathlib.Core.Logic.{_↔_}
-use Prim.Native.Nat.{ℕ, _≤_}
-use mathlib.Core.List.{[], _∷_}
+use Prim.Native.Nat.{ℕ, _*_, _/_, _^_, _≤_, _<_}
+use native.Mathlib.Omega.{arith}
+use mathlib.Core.List.{List}
 use lib.ListN.{length}
-use Rattle.permutation.specs.Inverse.{Addition}
-use Rattle.permutation.proofs.WordLaws.{plain}
+use Rattle.little_endian.proofs.ByteLaws.{AllBytes}
+use Rattle.permutation.specs.Inverse.{Undoes}
 use Rattle.permutation.proofs.State.{IsState}
-use Rattle.columns.specs.Settings.{settings, profile}
-use Rattle.input.specs.Input.{numbers, absorbed}
-use Rattle.derivation.specs.Derivation.{inputState}
-use Rattle.input.proofs.Bytes.{absorbed-state}
-use Rattle.input.proofs.Injective.{absorbed-inj}
-use Rattle.end_states.specs.Calls.{Call, Fits, OneBlockApart, SameEnd, SameInput, inputBlocks, paddedInput, absorbedState}
+use Rattle.settings.specs.Settings.{Settings}
+use Rattle.settings.specs.Sizes.{matrixWords, visitCount}
+use Rattle.matrix.proofs.Apart.{cells-words, words-cells}
+use Rattle.input.specs.Input.{Input, input, lengths, inputBlocks, paddedInput, inputState}
+use Rattle.input.proofs.InputLaws.{input-state, input-state-inj, length-padded-input}
+use Rattle.wandering.specs.Encoding.{encode}
+use Rattle.wandering.proofs.EncodingLaws.{encode-inj, visits-of-columns}
+use Rattle.derivation.specs.Derivation.{setupEnd, walkEnd, endState, endMatrix, endRecord}
+use Rattle.end_states.specs.EndStates.{endOf, EndAlike, StartAlike, AtMostOneDiffers, blocksOf}
 use Rattle.end_states.proofs.Walks.{walk-forth, walk-back}
 
-module _ (A : Addition) (ρ ω T R C : ℕ) (least : 3 ≤ R) (x y : Call) (fx : Fits R C x) (fy : Fits R C y) where
-  is-state : (z : Call) → Fits R C z → IsState (absorbedState (settings A ρ ω) T R C z)
-  unfolding absorbedState inputState
-  is-state z fz = absorbed-state A (z .password) (z .salt) (numbers (z .keyLength) (z .password) (z .salt) T R C) (fz .password-bytes) (fz .salt-bytes)
+-- bytes, lengths of four bytes, and room for the used matrix; what the matrix holds is left open
+pub record Fits (S : Settings) (x : Input) (m : List ℕ) : Type 0 where
+  pub key-fits : x .keyLength < 2 ^ 32
+  pub password-fits : length (x .password) < 2 ^ 32
+  pub password-bytes : AllBytes (x .password)
+  pub salt-bytes : AllBytes (x .salt)
+  pub room : matrixWords S ≤ length m
 
-  pub same-input-same-end : SameInput x y → SameEnd (settings A ρ ω) T R C x y
-  unfolding absorbedState inputState
-  same-input-same-end i =
-      let e : absorbedState (settings A ρ ω) T R C x ≡ absorbedState (settings A ρ ω) T R C y =
-      λ j. absorbed (A .sum) (i .password j) (i .salt j) (numbers (i .keyLength j) (i .password j) (i .salt j) T R C) in
-      let ends = walk-forth A ρ ω T R C least _ (x .matrix) _ (y .matrix) (is-state x fx) (is-state y fy) (fx .room) (fy .room) e in
-      record { states = ends .0; matrices = ends .1; records = ends .2 }
+blocks-are : (S : Settings) (x : Input) → blocksOf (paddedInput S x) ≡ inputBlocks (lengths x)
+blocks-are S x = omega (arith, length-padded-input S x)
 
-  pub same-end-same-input : (b : ℕ) → OneBlockApart T R C b x y → SameEnd (settings A ρ ω) T R C x y → SameInput x y
-  unfolding absorbedState inputState paddedInput inputBlocks
-  same-end-same-input b apart ends =
-      let e : absorbedState (settings A ρ ω) T R C x ≡ absorbedState (settings A ρ ω) T R C y =
-      walk-back A ρ ω T R C least _ (x .matrix) _ (y .matrix) (is-state x fx) (is-state y fy) (fx .room) (fy .room) (ends .states) (ends .matrices) (ends .records) in
+module _ (S : Settings) (u : Undoes (S .addition)) (least : 3 ≤ S .rows) (x y : Input) (m l : List ℕ) (fx : Fits S x m) (fy : Fits S y l) where
+  s : List ℕ
+  s = inputState S x
+
+  t : List ℕ
+  t = inputState S y
+
+  hs : IsState s
+  unfolding s
+  hs = input-state S x u (fx .password-bytes) (fx .salt-bytes)
+
+  ht : IsState t
+  unfolding t
+  ht = input-state S y u (fy .password-bytes) (fy .salt-bytes)
+
+  start-end : StartAlike x y → EndAlike (endOf S x m) (endOf S y l)
+  unfolding endOf endState endMatrix endRecord walkEnd s t
+  start-end i =
+      let e : s ≡ t = λ j. inputState S (input (i .passwords j) (i .salts j) (i .key-lengths j)) in
+      let a = walk-forth S u least s m t l hs ht (fx .room) (fy .room) e in
+      record { states = a .0 .state; matrices = cells-words (S .rows * S .columns) _ _ (a .0 .cells); records = ap encode (a .1) }
+
+  end-start : (b : ℕ) → AtMostOneDiffers S b x y → EndAlike (endOf S x m) (endOf S y l) → StartAlike x y
+  unfolding endOf endState endMatrix endRecord walkEnd s t
+  end-start b apart ends =
       let told =
-      absorbed-inj A (x .keyLength) (y .keyLength) (x .password) (x .salt) (y .password) (y .salt) (T ∷ R ∷ C ∷ []) (T ∷ R ∷ C ∷ []) refl
-      (fx .password-bytes) (fx .salt-bytes) (fy .password-bytes) (fy .salt-bytes)
-      (fx .key-fits) (fy .key-fits) (fx .password-fits) (fy .password-fits) (apart .as-many) b (apart .others) e in
-      record { password = told .0; salt = told .1; keyLength = told .2 }
+      encode-inj (S .columns) _ _ (visits-of-columns S (visitCount S) (setupEnd S s m)) (visits-of-columns S (visitCount S) (setupEnd S t l)) (ends .records) in
+      let e : s ≡ t =
+      walk-back S u least s m t l hs ht (fx .room) (fy .room)
+      (record { state = ends .states; cells = words-cells (S .rows * S .columns) _ _ (ends .matrices) }, told) in
+      let i =
+      input-state-inj S x y u (fx .password-bytes) (fx .salt-bytes) (fy .password-bytes) (fy .salt-bytes) (fx .key-fits) (fy .key-fits) (fx .password-fits) (fy .password-fits)
+      (sym (blocks-are S x) ∙ apart .as-many ∙ blocks-are S y) b (λ j lt. apart .others j (omega (arith, blocks-are S x))) e in
+      record { passwords = i .0; salts = i .1; key-lengths = i .2 }
 
 -- the theorem
-pub end-states-tell-inputs : (A : Addition) (ρ ω T R C b : ℕ) → 3 ≤ R → (x y : Call) → Fits R C x → Fits R C y
-    → OneBlockApart T R C b x y → SameEnd (settings A ρ ω) T R C x y ↔ SameInput x y
-end-states-tell-inputs A ρ ω T R C b least x y fx fy apart =
-    (same-end-same-input A ρ ω T R C least x y fx fy b apart, same-input-same-end A ρ ω T R C least x y fx fy)
-
--- document 01's own addition, rounds and rotation
-pub profile-end-states-tell-inputs : (T R C b : ℕ) → 3 ≤ R → (x y : Call) → Fits R C x → Fits R C y
-    → OneBlockApart T R C b x y → SameEnd profile T R C x y ↔ SameInput x y
-unfolding plain
-profile-end-states-tell-inputs = end-states-tell-inputs plain 1 2
+pub end-states-tell-inputs : (S : Settings) → Undoes (S .addition) → 3 ≤ S .rows → (b : ℕ) (x y : Input) (m l : List ℕ) → Fits S x m → Fits S y l
+    → AtMostOneDiffers S b x y → EndAlike (endOf S x m) (endOf S y l) ↔ StartAlike x y
+end-states-tell-inputs S u least b x y m l fx fy apart =
+    (end-start S u least x y m l fx fy b apart, start-end S u least x y m l fx fy)

@@ -1,80 +1,63 @@
--- Two walks end alike, in state, used matrix and used record, exactly where they start from the same state, whatever the two
--- matrices held. Assumes nothing.
-use mathlib.Core.Path.{_≡_, refl, ap}
+-- Two walks end alike, in work and visits, exactly where they start from the same state, whatever the two matrices held. Assumes
+-- nothing.
+use mathlib.Core.Path.{_≡_, refl}
 use Prim.Native.Nat.{ℕ, _-_, _*_, _≤_}
 use native.Mathlib.Omega.{arith}
 use mathlib.Core.List.{List}
-use lib.ListN.{length, take}
-use Rattle.permutation.specs.Inverse.{Addition}
+use lib.ListN.{length}
+use Rattle.permutation.specs.Inverse.{Undoes}
 use Rattle.permutation.proofs.State.{IsState}
-use Rattle.matrix.proofs.Apart.{cells-words, words-cells}
-use Rattle.columns.specs.Settings.{Settings, Work, settings, work}
+use Rattle.settings.specs.Settings.{Settings}
+use Rattle.settings.specs.Sizes.{matrixWords, visitCount}
+use Rattle.columns.specs.Columns.{work}
+use Rattle.columns.proofs.View.{Sound, Below}
 use Rattle.setup_order.proofs.Windows.{prev1-lt}
-use Rattle.wandering.specs.Visits.{wander}
-use Rattle.wandering.specs.Encoding.{encode}
-use Rattle.derivation.specs.Derivation.{setupEnd, walkEnd, walkVisits}
-use Rattle.end_states.specs.EndState.{lastState, usedMatrix, usedRecord}
-use Rattle.columns.proofs.View.{Same, Sound, Below}
 use Rattle.setup.proofs.SetupKeeps.{setup-keeps}
-use Rattle.wandering.proofs.VisitsUndone.{SoundWalk, SameDone, SameRows, wander-forth, wander-back}
-use Rattle.wandering.proofs.EncodingLaws.{encode-inj, visits-of-columns}
+use Rattle.wandering.specs.Visits.{Walk, wander, visits}
+use Rattle.wandering.proofs.VisitsUndone.{SoundWalk, SameDone, SameRows, wander-sound, wander-rows, wander-forth, wander-back}
+use Rattle.derivation.specs.Derivation.{setupEnd}
 
--- the state and every cell are the same exactly where the state and the used matrix are
+module _ (S : Settings) (u : Undoes (S .addition)) (least : 3 ≤ S .rows) where
+  abbrev pub last : List ℕ → List ℕ → Walk
+  last s m = wander S (visitCount S) (setupEnd S s m)
 
-used-told : (n : ℕ) (v w : Work) → Same (Below n) v w → take (12 * n) (v .matrix) ≡ take (12 * n) (w .matrix)
-used-told n v w s = cells-words n (v .matrix) (w .matrix) (s .cells)
-
-used-tells : (n : ℕ) (v w : Work) → v .state ≡ w .state → take (12 * n) (v .matrix) ≡ take (12 * n) (w .matrix) → Same (Below n) v w
-used-tells n v w e m = record { state = e; cells = words-cells n (v .matrix) (w .matrix) m }
-
-module _ (A : Addition) (ρ ω T R C : ℕ) (least : 3 ≤ R) where
-  abbrev S : Settings
-  S = settings A ρ ω
-
-  before-setup : (s m : List ℕ) → IsState s → 12 * (R * C) ≤ length m → Sound (R * C) (Below (0 * C)) (work s m)
+  before-setup : (s m : List ℕ) → IsState s → matrixWords S ≤ length m → Sound (S .rows * S .columns) (Below (0 * S .columns)) (work s m)
   before-setup s m hs fits = record { state = hs; fits = fits; words = λ q none. absurd (omega arith) }
 
-  start-sound : (s m : List ℕ) → IsState s → 12 * (R * C) ≤ length m → SoundWalk R C (setupEnd S R C s m)
+  start-sound : (s m : List ℕ) → IsState s → matrixWords S ≤ length m → SoundWalk (S .rows) (S .columns) (setupEnd S s m)
   unfolding setupEnd
   start-sound s m hs fits =
       record {
-        done = setup-keeps A ρ ω R C least .sound (work s m) (before-setup s m hs fits);
+        done = setup-keeps S u least .sound (work s m) (before-setup s m hs fits);
         prev0 = omega arith;
-        prev1 = omega (arith, prev1-lt (R - 3));
+        prev1 = omega (arith, prev1-lt (S .rows - 3));
       }
 
-  start-rows : (s m t l : List ℕ) → SameRows (setupEnd S R C s m) (setupEnd S R C t l)
+  start-rows : (s m t l : List ℕ) → SameRows (setupEnd S s m) (setupEnd S t l)
   unfolding setupEnd
   start-rows s m t l = (refl, refl)
 
-  module _ (s m t l : List ℕ) (hs : IsState s) (ht : IsState t) (fm : 12 * (R * C) ≤ length m) (fl : 12 * (R * C) ≤ length l) where
-    pub setup-forth : s ≡ t → SameDone R C (setupEnd S R C s m) (setupEnd S R C t l)
-    unfolding setupEnd
-    setup-forth e =
-        setup-keeps A ρ ω R C least .forth (work s m) (work t l) (before-setup s m hs fm) (before-setup t l ht fl)
-        (record { state = e; cells = λ q none. absurd (omega arith) })
+  pub last-sound : (s m : List ℕ) → IsState s → matrixWords S ≤ length m → SoundWalk (S .rows) (S .columns) (last s m)
+  last-sound s m hs fits = wander-sound S u (visitCount S) (setupEnd S s m) (start-sound s m hs fits)
 
-    pub setup-back : SameDone R C (setupEnd S R C s m) (setupEnd S R C t l) → s ≡ t
-    unfolding setupEnd
-    setup-back same =
-        setup-keeps A ρ ω R C least .back (work s m) (work t l) (before-setup s m hs fm) (before-setup t l ht fl) same .state
+  module _ (s m t l : List ℕ) (hs : IsState s) (ht : IsState t) (fm : matrixWords S ≤ length m) (fl : matrixWords S ≤ length l) where
+    abbrev Alike : Type 0
+    Alike = SameDone (S .rows) (S .columns) (last s m) (last t l) × (visits S (visitCount S) (setupEnd S s m) ≡ visits S (visitCount S) (setupEnd S t l))
 
-    pub walk-forth : s ≡ t
-        → (lastState S T R C s m ≡ lastState S T R C t l) × (usedMatrix S T R C s m ≡ usedMatrix S T R C t l) × (usedRecord S T R C s m ≡ usedRecord S T R C t l)
-    unfolding walkEnd walkVisits lastState usedMatrix usedRecord
+    pub walk-forth : s ≡ t → Alike
+    unfolding setupEnd
     walk-forth e =
-        let v = setupEnd S R C s m in
-        let w = setupEnd S R C t l in
-        let ends = wander-forth A ρ ω R C (R * T) v w (start-sound s m hs fm) (start-sound t l ht fl) (start-rows s m t l) (setup-forth e) in
-        (ends .0 .state, used-told (R * C) _ _ (ends .0), ap encode (ends .1))
+        wander-forth S u (visitCount S) (setupEnd S s m) (setupEnd S t l) (start-sound s m hs fm) (start-sound t l ht fl) (start-rows s m t l)
+        (setup-keeps S u least .forth (work s m) (work t l) (before-setup s m hs fm) (before-setup t l ht fl)
+        (record { state = e; cells = λ q none. absurd (omega arith) }))
 
-    pub walk-back : lastState S T R C s m ≡ lastState S T R C t l → usedMatrix S T R C s m ≡ usedMatrix S T R C t l
-        → usedRecord S T R C s m ≡ usedRecord S T R C t l → s ≡ t
-    unfolding walkEnd walkVisits lastState usedMatrix usedRecord
-    walk-back state matrix visited =
-        let v = setupEnd S R C s m in
-        let w = setupEnd S R C t l in
-        let told = encode-inj C _ _ (visits-of-columns S R C (R * T) v) (visits-of-columns S R C (R * T) w) visited in
-        setup-back
-        (wander-back A ρ ω R C (R * T) v w (start-sound s m hs fm) (start-sound t l ht fl) (start-rows s m t l) told
-        (used-tells (R * C) (wander S R C (R * T) v .done) (wander S R C (R * T) w .done) state matrix))
+    pub walk-back : Alike → s ≡ t
+    unfolding setupEnd
+    walk-back a =
+        setup-keeps S u least .back (work s m) (work t l) (before-setup s m hs fm) (before-setup t l ht fl)
+        (wander-back S u (visitCount S) (setupEnd S s m) (setupEnd S t l) (start-sound s m hs fm) (start-sound t l ht fl) (start-rows s m t l) (a .1) (a .0))
+        .state
+
+    -- the last visits have the same rows
+    pub walk-rows : Alike → SameRows (last s m) (last t l)
+    walk-rows a = wander-rows S u (visitCount S) (setupEnd S s m) (setupEnd S t l) (start-rows s m t l) (a .1)

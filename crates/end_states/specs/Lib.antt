@@ -1,4 +1,3 @@
--- What a derivation leaves after its last visit, and the pairs of calls that are compared by it.
-pub mod EndState
-pub mod Calls
+-- What end states are, and the trials that are compared by them.
+pub mod EndStates
 pub mod Trials

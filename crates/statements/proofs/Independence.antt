@@ -1,34 +1,36 @@
 -- Which refusal is given, and the counts, depend on lengths, T, R and C alone: two calls with the same of these get the same answer,
 -- whatever their bytes and words are. Assumes nothing.
-use mathlib.Core.Path.{_≡_, sym, ap, _∙_}
+use mathlib.Core.Path.{_≡_, sym, _∙_}
 use Prim.Native.Nat.{ℕ}
 use mathlib.Core.List.{List}
 use lib.ListN.{length}
-use Rattle.refusals.specs.Checks.{first, plainChecks, recordedChecks}
+use Rattle.settings.specs.declared.Parameters.{Parameters}
+use Rattle.settings.specs.declared.Lengths.{Lengths}
+use Rattle.input.specs.Input.{Input, lengths}
+use Rattle.refusals.specs.Checks.{first, costChecks, plainChecks, recordedChecks}
 use Rattle.derivation.specs.Answers.{costAnswer}
+use Rattle.derivation.specs.Contracts.{Derived, Compared, Recorded}
 use Rattle.derivation.specs.declared.Costs.{Costs}
-use Rattle.recorded.specs.declared.Recorded.{Recorded}
-use Rattle.recorded.specs.Recording.{Derived, withState}
-use Rattle.recorded.proofs.Contract.{recorded-split}
-use Rattle.statements.specs.Calls.{PlainCall}
 
--- the costs in a recorded answer
-abbrev costsIn : Recorded → Costs
-costsIn r = record { refusal = r .refusal; full = r .full; reduced = r .reduced; rounds = r .rounds }
+-- the cost question takes nothing but these
+pub cost-by-lengths : (l : Lengths) (p : Parameters) (r₁ r₂ : Costs) → r₁ ≡ costAnswer (first (costChecks l p)) l p
+    → r₂ ≡ costAnswer (first (costChecks l p)) l p → r₁ ≡ r₂
+cost-by-lengths l p r₁ r₂ e f = e ∙ sym f
 
-module _ (T R C : ℕ) (p₁ s₁ key₁ matrix₁ p₂ s₂ key₂ matrix₂ : List ℕ)
-    (p : length p₁ ≡ length p₂) (s : length s₁ ≡ length s₂) (k : length key₁ ≡ length key₂) (m : length matrix₁ ≡ length matrix₂) where
-  pub plain-answer-by-lengths : (k₁′ m₁′ k₂′ m₂′ : List ℕ) (r₁ r₂ : Costs)
-      → PlainCall p₁ s₁ T R C key₁ matrix₁ k₁′ m₁′ r₁ → PlainCall p₂ s₂ T R C key₂ matrix₂ k₂′ m₂′ r₂ → r₁ ≡ r₂
-  plain-answer-by-lengths k₁′ m₁′ k₂′ m₂′ r₁ r₂ c₁ c₂ =
-      c₁ .answer
-      ∙ (λ i. costAnswer (first (plainChecks (k i) (p i) (s i) T R C (m i))) (k i) (p i) (s i) T R C)
-      ∙ sym (c₂ .answer)
+module _ (p : Parameters) (x y : Input) (same : lengths x ≡ lengths y) (matrix₁ matrix₂ : List ℕ) (m : length matrix₁ ≡ length matrix₂) where
+  plain : {r₁ r₂ : Costs} → r₁ ≡ costAnswer (first (plainChecks (lengths x) p (length matrix₁))) (lengths x) p
+      → r₂ ≡ costAnswer (first (plainChecks (lengths y) p (length matrix₂))) (lengths y) p → r₁ ≡ r₂
+  plain e f = e ∙ (λ i. costAnswer (first (plainChecks (same i) p (m i))) (same i) p) ∙ sym f
 
-  pub recorded-costs-by-lengths : (v₁ v₂ k₁′ m₁′ v₁′ k₂′ m₂′ v₂′ : List ℕ) (r₁ r₂ : Recorded) → length v₁ ≡ length v₂
-      → Derived p₁ s₁ T R C key₁ matrix₁ v₁ k₁′ m₁′ v₁′ r₁ → Derived p₂ s₂ T R C key₂ matrix₂ v₂ k₂′ m₂′ v₂′ r₂ → costsIn r₁ ≡ costsIn r₂
-  unfolding withState
-  recorded-costs-by-lengths v₁ v₂ k₁′ m₁′ v₁′ k₂′ m₂′ v₂′ r₁ r₂ v d₁ d₂ =
-      ap costsIn (d₁ .answer ∙ recorded-split _ (length key₁) p₁ s₁ T R C matrix₁)
-      ∙ (λ i. costAnswer (first (recordedChecks (k i) (p i) (s i) T R C (m i) (v i))) (k i) (p i) (s i) T R C)
-      ∙ sym (ap costsIn (d₂ .answer ∙ recorded-split _ (length key₂) p₂ s₂ T R C matrix₂))
+  pub derivation-by-lengths : (k₁ k₁′ m₁′ k₂ k₂′ m₂′ : List ℕ) (r₁ r₂ : Costs)
+      → Derived p x k₁ matrix₁ k₁′ m₁′ r₁ → Derived p y k₂ matrix₂ k₂′ m₂′ r₂ → r₁ ≡ r₂
+  derivation-by-lengths k₁ k₁′ m₁′ k₂ k₂′ m₂′ r₁ r₂ d₁ d₂ = plain (d₁ .answer) (d₂ .answer)
+
+  pub check-by-lengths : (s₁ m₁′ s₂ m₂′ : List ℕ) (r₁ r₂ : Costs) (same₁ same₂ : ℕ)
+      → Compared p x s₁ matrix₁ m₁′ r₁ same₁ → Compared p y s₂ matrix₂ m₂′ r₂ same₂ → r₁ ≡ r₂
+  check-by-lengths s₁ m₁′ s₂ m₂′ r₁ r₂ same₁ same₂ d₁ d₂ = plain (d₁ .answer) (d₂ .answer)
+
+  pub recorded-by-lengths : (k₁ v₁ k₁′ m₁′ v₁′ k₂ v₂ k₂′ m₂′ v₂′ : List ℕ) (r₁ r₂ : Costs) (s₁ s₂ : List ℕ) → length v₁ ≡ length v₂
+      → Recorded p x k₁ matrix₁ v₁ k₁′ m₁′ v₁′ r₁ s₁ → Recorded p y k₂ matrix₂ v₂ k₂′ m₂′ v₂′ r₂ s₂ → r₁ ≡ r₂
+  recorded-by-lengths k₁ v₁ k₁′ m₁′ v₁′ k₂ v₂ k₂′ m₂′ v₂′ r₁ r₂ s₁ s₂ v d₁ d₂ =
+      d₁ .answer ∙ (λ i. costAnswer (first (recordedChecks (same i) p (m i) (v i))) (same i) p) ∙ sym (d₂ .answer)

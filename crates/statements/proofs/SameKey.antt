@@ -1,31 +1,82 @@
--- The plain and the recorded derivation of the same input over the same matrix, both accepted, give the same key and end matrix.
--- Assumes nothing.
-use mathlib.Core.Path.{_≡_, sym, ap, _∙_}
-use Prim.Native.Nat.{ℕ}
+-- One key: plain or recorded, over whatever memory, the same input has the same key, and a check says yes exactly where the stored bytes
+-- are that key. Assumes nothing.
+use mathlib.Core.Path.{_≡_, refl, sym, ap, _∙_}
+use mathlib.Core.Logic.{_↔_}
+use Prim.Native.Nat.{ℕ, _≤_, _<_}
+use native.Mathlib.Omega.{arith}
+use mathlib.Core.Bool.{Bool, true, false}
 use mathlib.Core.List.{List}
-use lib.ListN.{length}
-use Rattle.columns.specs.Settings.{profile}
+use lib.ListN.{length, getD}
+use Rattle.permutation.proofs.WordLaws.{plain-undoes}
+use Rattle.settings.specs.Settings.{settings}
+use Rattle.settings.specs.Sizes.{matrixWords}
+use Rattle.settings.specs.declared.Parameters.{Parameters}
+use Rattle.input.specs.Input.{Input, lengths}
+use Rattle.key.specs.Key.{sameBytes}
+use Rattle.key.proofs.Same.{same-of-equal, equal-of-same}
+use Rattle.refusals.specs.Checks.{costChecks, plainChecks, recordedChecks}
+use Rattle.refusals.proofs.Accepted.{accepted}
+use Rattle.derivation.specs.Answers.{flag}
 use Rattle.derivation.specs.Derivation.{keyOf, endMatrix}
+use Rattle.derivation.specs.Contracts.{plainNumber, recordedNumber, Derived, Compared, Recorded}
 use Rattle.derivation.specs.declared.Costs.{Costs}
-use Rattle.derivation.proofs.Answering.{answered-yes, cost-refusal-is}
-use Rattle.recorded.specs.declared.Recorded.{Recorded}
-use Rattle.recorded.specs.Recording.{Derived}
-use Rattle.recorded.proofs.Contract.{derived-key, derived-matrix}
-use Rattle.statements.specs.Calls.{PlainCall, plainNumber}
+use Rattle.derivation.proofs.Answering.{answered-is, accepted-number}
+use Rattle.end_states.proofs.Keys.{key-of-any-matrix}
 
-module _ (p s : List ℕ) (T R C : ℕ) (matrix key₁ key₂ visited key₁′ matrix₁′ key₂′ matrix₂′ visited′ : List ℕ) (r₁ : Costs) (r₂ : Recorded)
-    (plain : PlainCall p s T R C key₁ matrix key₁′ matrix₁′ r₁) (recorded : Derived p s T R C key₂ matrix visited key₂′ matrix₂′ visited′ r₂)
-    (accepted₁ : r₁ .refusal ≡ 0) (accepted₂ : r₂ .refusal ≡ 0) (k : length key₁ ≡ length key₂) where
-  number : plainNumber p s T R C key₁ matrix ≡ 0
-  number =
-      sym (ap (λ (x : Costs). x .refusal) (plain .answer) ∙ cost-refusal-is _ (length key₁) (length p) (length s) T R C) ∙ accepted₁
+-- 1 stands for yes alone
+flag-yes : (b : Bool) → flag b ≡ 1 → b ≡ true
+flag-yes true e = refl
+flag-yes false e = absurd (omega arith)
 
-  pub same-key : key₁′ ≡ key₂′
-  same-key =
-      plain .key-after ∙ answered-yes _ _ _ number ∙ ap (λ (n : ℕ). keyOf profile n p s T R C matrix) k
-      ∙ sym (derived-key _ _ _ _ _ _ _ _ _ _ _ _ recorded accepted₂)
+-- bytes are the key of an input over some matrix that has room
+pub record KeyOver (p : Parameters) (x : Input) (key matrix : List ℕ) : Type 0 where
+  pub rows-least : 3 ≤ p .rows
+  pub columns-pos : 1 ≤ p .columns
+  pub room : matrixWords (settings p) ≤ length matrix
+  pub is : key ≡ keyOf (settings p) x matrix
 
-  pub same-matrix : matrix₁′ ≡ matrix₂′
-  same-matrix =
-      plain .matrix-after ∙ answered-yes _ _ _ number ∙ ap (λ (n : ℕ). endMatrix profile n p s T R C matrix) k
-      ∙ sym (derived-matrix _ _ _ _ _ _ _ _ _ _ _ _ recorded accepted₂)
+module _ (p : Parameters) (x : Input) where
+  plain-over : (matrix : List ℕ) {key : List ℕ} → plainNumber p x matrix ≡ 0 → key ≡ keyOf (settings p) x matrix → KeyOver p x key matrix
+  unfolding plainChecks costChecks
+  plain-over matrix none e =
+      let h = accepted (plainChecks (lengths x) p (length matrix)) (omega arith) none in
+      record { rows-least = omega arith; columns-pos = omega arith; room = omega arith; is = e }
+
+  pub derivation-gives : (key matrix key′ matrix′ : List ℕ) (r : Costs) → Derived p x key matrix key′ matrix′ r → r .refusal ≡ 0 → KeyOver p x key′ matrix
+  derivation-gives key matrix key′ matrix′ r d z =
+      let none = accepted-number (lengths x) p (d .answer) z in plain-over matrix none (answered-is _ _ none (d .key-after))
+
+  pub recorded-gives : (key matrix visited key′ matrix′ visited′ : List ℕ) (r : Costs) (state : List ℕ)
+      → Recorded p x key matrix visited key′ matrix′ visited′ r state → r .refusal ≡ 0 → KeyOver p x key′ matrix
+  unfolding recordedChecks plainChecks costChecks
+  recorded-gives key matrix visited key′ matrix′ visited′ r state d z =
+      let none = accepted-number (lengths x) p (d .answer) z in
+      let h = accepted (recordedChecks (lengths x) p (length matrix) (length visited)) (omega arith) none in
+      record { rows-least = omega arith; columns-pos = omega arith; room = omega arith; is = answered-is _ _ none (d .key-after) }
+
+  module _ (password-bytes : (i : ℕ) → getD (x .password) i 0 < 256) (salt-bytes : (i : ℕ) → getD (x .salt) i 0 < 256) where
+    pub same-key : (key₁ matrix₁ key₂ matrix₂ : List ℕ) → KeyOver p x key₁ matrix₁ → KeyOver p x key₂ matrix₂ → key₁ ≡ key₂
+    same-key key₁ matrix₁ key₂ matrix₂ a b =
+        a .is
+        ∙ key-of-any-matrix (settings p) plain-undoes (a .rows-least) (a .columns-pos) x password-bytes salt-bytes matrix₁ matrix₂ (a .room) (b .room)
+        ∙ sym (b .is)
+
+    -- yes exactly where the stored bytes are the key, over whatever memory the key was made
+    pub check-settles : (stored matrix matrix′ : List ℕ) (r : Costs) (same : ℕ) → Compared p x stored matrix matrix′ r same → r .refusal ≡ 0
+        → (key over : List ℕ) → KeyOver p x key over → (same ≡ 1) ↔ (stored ≡ key)
+    check-settles stored matrix matrix′ r same c z key over k =
+        let none = accepted-number (lengths x) p (c .answer) z in
+        let there = plain-over matrix none refl in
+        let e = same-key _ matrix key over there k in
+        let answer = answered-is _ _ none (c .same-is) in (
+          λ yes. equal-of-same stored _ (flag-yes _ (sym answer ∙ yes)) ∙ e,
+          λ equal. answer ∙ ap flag (ap (sameBytes stored) (e ∙ sym equal) ∙ same-of-equal stored),
+        )
+
+-- ---- over the same matrix, plain and recorded leave the same end matrix
+pub same-matrix : (p : Parameters) (x : Input) (matrix key₁ key₂ visited key₁′ matrix₁′ key₂′ matrix₂′ visited′ : List ℕ) (r₁ r₂ : Costs) (state : List ℕ)
+    → Derived p x key₁ matrix key₁′ matrix₁′ r₁ → Recorded p x key₂ matrix visited key₂′ matrix₂′ visited′ r₂ state
+    → r₁ .refusal ≡ 0 → r₂ .refusal ≡ 0 → matrix₁′ ≡ matrix₂′
+same-matrix p x matrix key₁ key₂ visited key₁′ matrix₁′ key₂′ matrix₂′ visited′ r₁ r₂ state plain recorded z₁ z₂ =
+    answered-is _ _ (accepted-number (lengths x) p (plain .answer) z₁) (plain .matrix-after)
+    ∙ sym (answered-is _ _ (accepted-number (lengths x) p (recorded .answer) z₂) (recorded .matrix-after))

@@ -3,11 +3,14 @@ use mathlib.Core.Path.{_≡_}
 use Prim.Native.Nat.{ℕ, _-_}
 use mathlib.Core.List.{List, [], _∷_, _++_}
 use lib.ListN.{length, getD, drop, replicate}
-use Rattle.permutation.specs.Word.{plainSum}
-use Rattle.permutation.specs.Round.{G}
-use Rattle.permutation.specs.declared.Words.{Words}
+use Rattle.mixer.specs.Word.{plainSum}
+use Rattle.mixer.specs.G.{G}
+use Rattle.mixer.specs.declared.Words.{Words}
 use Rattle.setup_order.specs.SetupOrder.{order, row1Of}
-use Rattle.input.specs.Input.{numbers, padded, blocks}
+use Rattle.settings.specs.Settings.{Settings}
+use Rattle.settings.specs.declared.Parameters.{Parameters}
+use Rattle.settings.specs.declared.Lengths.{Lengths}
+use Rattle.input.specs.Input.{Input, paddedInput}
 use Rattle.derivation.specs.Cost.{fullCost}
 use Rattle.derivation.specs.Answers.{costs}
 use Rattle.derivation.specs.declared.Costs.{Costs}
@@ -23,13 +26,12 @@ pub record BenchCases : Type 0 where
   -- the window of 16 begins at row 16, and that of 32 at row 32
   pub stp-with-wnd-16 : (order (16 - 3) .wnd ≡ 16) × (order (16 - 3) .stp ≡ 5)
   pub stp-with-wnd-32 : (order (32 - 3) .wnd ≡ 32) × (order (32 - 3) .stp ≡ 7)
-  -- the padded input with a salt of 8 bytes, whatever its bytes and the other numbers
-  pub password-none : (k T R C : ℕ) (password salt : List ℕ) → length salt ≡ 8 → length password ≡ 0
-      → (blocks (length password) (length salt) 6 ≡ 1)
-      × (drop 32 (padded password salt (numbers k password salt T R C)) ≡ 0x80 ∷ (replicate 30 0 ++ (0x01 ∷ [])))
-  pub password-31 : (k T R C : ℕ) (password salt : List ℕ) → length salt ≡ 8 → length password ≡ 31
-      → (blocks (length password) (length salt) 6 ≡ 1) × (getD (padded password salt (numbers k password salt T R C)) 63 0 ≡ 0x81)
-  pub password-32 : (password salt : List ℕ) → length salt ≡ 8 → length password ≡ 32 → blocks (length password) (length salt) 6 ≡ 2
+  -- the padded input with a salt of 8 bytes, whatever its bytes and the other numbers; a block has 64 bytes
+  pub password-none : (S : Settings) (x : Input) → length (x .salt) ≡ 8 → length (x .password) ≡ 0
+      → (length (paddedInput S x) ≡ 64) × (drop 32 (paddedInput S x) ≡ 0x80 ∷ (replicate 30 0 ++ (0x01 ∷ [])))
+  pub password-31 : (S : Settings) (x : Input) → length (x .salt) ≡ 8 → length (x .password) ≡ 31
+      → (length (paddedInput S x) ≡ 64) × (getD (paddedInput S x) 63 0 ≡ 0x81)
+  pub password-32 : (S : Settings) (x : Input) → length (x .salt) ≡ 8 → length (x .password) ≡ 32 → length (paddedInput S x) ≡ 128
   -- the costs: key 32, password 31, salt 8, T 1, R 3, C 1; and the full calls with password 32 and key 97
-  pub costs-30 : costs 32 31 8 1 3 1 ≡ record { refusal = 0; full = 2; reduced = 6; rounds = 30 }
-  pub full-4 : fullCost 97 32 8 ≡ 4
+  pub costs-30 : costs (record { key = 32; password = 31; salt = 8 }) (record { time = 1; rows = 3; columns = 1 }) ≡ record { refusal = 0; full = 2; reduced = 6; rounds = 30 }
+  pub full-4 : fullCost (record { key = 97; password = 32; salt = 8 }) ≡ 4

@@ -1,3 +1,2 @@
 -- Statements about the whole base.
 pub mod BenchCases
-pub mod Calls

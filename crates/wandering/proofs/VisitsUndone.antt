@@ -7,7 +7,7 @@ use native.Mathlib.Omega.{arith}
 use mathlib.Core.List.{[], _∷_, _++_}
 use lib.ListN.{getD}
 use Rattle.lists.specs.Loop.{loop}
-use Rattle.lists.proofs.Traces.{Undone, loop-good, loop-forth, loop-back}
+use Rattle.lists.proofs.Traces.{Undone, loop-good, loop-met, loop-forth, loop-back}
 use Rattle.permutation.specs.Inverse.{Undoes}
 use Rattle.sponge.specs.Sponge.{rand}
 use Rattle.settings.specs.Settings.{Settings}
@@ -166,6 +166,14 @@ module _ (S : Settings) (u : Undoes (S .addition)) where
       ≡ visits S n w ++ (visitData S (loop (λ k v. visit S v) n w) ∷ [])
   unfolding visits wander
   more-visits n w = refl
+
+  pub wander-sound : (n : ℕ) (w : Walk) → SoundWalk R C w → SoundWalk R C (wander S n w)
+  unfolding wander
+  wander-sound n w h = loop-good (visit-undone n) (visits S) no-visits more-visits n (omega arith) w h
+
+  pub wander-rows : (n : ℕ) (v w : Walk) → SameRows v w → visits S n v ≡ visits S n w → SameRows (wander S n v) (wander S n w)
+  unfolding wander
+  wander-rows n v w rows e = loop-met (visit-undone n) (visits S) no-visits more-visits n v w rows e
 
   module _ (n : ℕ) (v w : Walk) (hv : SoundWalk R C v) (hw : SoundWalk R C w) (rows : SameRows v w) where
     pub wander-forth : SameDone R C v w
