@@ -1,2 +1,2 @@
--- What the exported functions leave in the words that they are lent for counts.
-pub mod Counts
+-- Answers whose fields a caller lends the places for.
+pub mod Stored

@@ -1,41 +1,54 @@
-// The operations under C names. Each hands on to the proved one and takes its answer apart: the result is 0 or the
-// number of a refusal, and a refusal leaves every lent buffer as it was.
+// The operations under C names. Each hands on to the proved one and takes its answer apart: the result is 0 or the number of a
+// refusal, and the answer's other fields are stored, zeros where the call was refused. A refusal leaves key, matrix and record as
+// they were.
+use checking::Checked;
 use derivation::Costs;
+use recorded::Recording;
+use settings::Lengths;
+use settings::Parameters;
+use walk_question::WalkAnswer;
 ghost use mathlib.Core.Path.{_≡_};
-ghost use mathlib.Core.List.{[], _∷_};
 ghost use lib.ListN.{length};
-ghost use Rattle.refusals.specs.Checks.{first, costChecks, plainChecks, recordedChecks};
-ghost use Rattle.columns.specs.Settings.{profile};
-ghost use Rattle.key.specs.Key.{sameBytes};
-ghost use Rattle.derivation.specs.Answers.{answered, costAnswer};
-ghost use Rattle.derivation.specs.Derivation.{keyOf, endMatrix};
-ghost use Rattle.lists.specs.Zip.{putInto};
-ghost use Rattle.recorded.specs.Recording.{endState, endRecord};
+ghost use Rattle.input.specs.Input.{input};
+ghost use Rattle.refusals.specs.Checks.{first, costChecks};
+ghost use Rattle.derivation.specs.Answers.{costAnswer, flag as «number-of»};
+ghost use Rattle.derivation.specs.Contracts.{Derived, Compared, Recorded};
 ghost use Rattle.walk_question.specs.Question.{walkAnswer};
-ghost use Rattle.derivation_export.specs.Counts.{stored as «counts-stored», costsStored, flag as «number-of»};
+ghost use Rattle.derivation_export.specs.Stored.{parameters, lengthsOf, stored as «counts-stored»};
 
-// Stores the counts of a call that was carried out.
-fn store_counts(refusal: u32, full: u64, reduced: u64, rounds: u64, counts: &mut [u64; 3])
-    ensures { λ _. ⌜ now (counts .exit) ≡ «counts-stored» refusal (full ∷ reduced ∷ rounds ∷ []) (now (counts .entry)) ⌝ }
+// Stores the counts of an answer, and returns its number.
+fn store_costs(a: Costs, counts: &mut [u64; 3]) -> u32
+    ensures { λ r. ⌜ «counts-stored» r (now (counts .exit)) ≡ a ⌝ }
 {
-    if refusal == 0 {
-        counts[0] = full;
-        counts[1] = reduced;
-        counts[2] = rounds;
+    *counts = [a.full, a.reduced, a.rounds];
+    a.refusal
+}
+
+// Stores 1 for yes and 0 for no.
+fn store_same(a: Checked, same: &mut u32)
+    ensures { λ _. ⌜ now (same .exit) ≡ «number-of» (a .same) ⌝ }
+{
+    if a.same {
+        *same = 1;
+    } else {
+        *same = 0;
     }
 }
 
-// Stores yes or no of a check that was carried out.
-fn store_flag(refusal: u32, same: bool, flag: &mut u32)
-    ensures { λ _. ⌜ now (flag .exit) ≡ answered refusal («number-of» same) (now (flag .entry)) ⌝ }
+// Stores the state of a recording.
+fn store_state(a: Recording, state: &mut [u64; 16])
+    ensures { λ _. ⌜ now (state .exit) ≡ a .state ⌝ }
 {
-    if refusal == 0 {
-        if same {
-            *flag = 1;
-        } else {
-            *flag = 0;
-        }
-    }
+    let words = a.state;
+    *state = words;
+}
+
+// Stores a row, and returns the number of the answer.
+fn store_row(a: WalkAnswer, row1: &mut usize) -> u32
+    ensures { λ r. ⌜ (r ≡ a .refusal) × (now (row1 .exit) ≡ a .row1) ⌝ }
+{
+    *row1 = a.row1;
+    a.refusal
 }
 
 // The plain derivation: fills the key and the used matrix.
@@ -50,14 +63,14 @@ pub extern "C" fn lyra2_derive(
     matrix: &mut [u64],
     counts: &mut [u64; 3],
 ) -> u32
-    ensures { λ r. ⌜ r ≡ first (plainChecks (length (now (key .entry))) (length (now (password .entry))) (length (now (salt .entry))) time rows columns (length (now (matrix .entry)))) ⌝ }
-    ensures { λ r. ⌜ now (key .exit) ≡ answered r (keyOf profile (length (now (key .entry))) (now (password .entry)) (now (salt .entry)) time rows columns (now (matrix .entry))) (now (key .entry)) ⌝ }
-    ensures { λ r. ⌜ now (matrix .exit) ≡ answered r (endMatrix profile (length (now (key .entry))) (now (password .entry)) (now (salt .entry)) time rows columns (now (matrix .entry))) (now (matrix .entry)) ⌝ }
-    ensures { λ r. ⌜ now (counts .exit) ≡ costsStored (costAnswer r (length (now (key .entry))) (length (now (password .entry))) (length (now (salt .entry))) time rows columns) (now (counts .entry)) ⌝ }
+    ensures { λ r. ⌜ Derived (parameters time rows columns) (input (now (password .entry)) (now (salt .entry)) (length (now (key .entry)))) (now (key .entry)) (now (matrix .entry)) (now (key .exit)) (now (matrix .exit)) («counts-stored» r (now (counts .exit))) ⌝ }
 {
-    let a = derivation::derive(password, salt, time, rows, columns, key, matrix);
-    store_counts(a.refusal, a.full, a.reduced, a.rounds, counts);
-    a.refusal
+    let p = Parameters {
+        time,
+        rows,
+        columns,
+    };
+    store_costs(deriving::derive(password, salt, p, key, matrix), counts)
 }
 
 // The check: `same` becomes 1 where the stored bytes are the key, else 0.
@@ -73,15 +86,16 @@ pub extern "C" fn lyra2_check(
     same: &mut u32,
     counts: &mut [u64; 3],
 ) -> u32
-    ensures { λ r. ⌜ r ≡ first (plainChecks (length (now (stored .entry))) (length (now (password .entry))) (length (now (salt .entry))) time rows columns (length (now (matrix .entry)))) ⌝ }
-    ensures { λ r. ⌜ now (same .exit) ≡ answered r («number-of» (sameBytes (now (stored .entry)) (keyOf profile (length (now (stored .entry))) (now (password .entry)) (now (salt .entry)) time rows columns (now (matrix .entry))))) (now (same .entry)) ⌝ }
-    ensures { λ r. ⌜ now (matrix .exit) ≡ answered r (endMatrix profile (length (now (stored .entry))) (now (password .entry)) (now (salt .entry)) time rows columns (now (matrix .entry))) (now (matrix .entry)) ⌝ }
-    ensures { λ r. ⌜ now (counts .exit) ≡ costsStored (costAnswer r (length (now (stored .entry))) (length (now (password .entry))) (length (now (salt .entry))) time rows columns) (now (counts .entry)) ⌝ }
+    ensures { λ r. ⌜ Compared (parameters time rows columns) (input (now (password .entry)) (now (salt .entry)) (length (now (stored .entry)))) (now (stored .entry)) (now (matrix .entry)) (now (matrix .exit)) («counts-stored» r (now (counts .exit))) (now (same .exit)) ⌝ }
 {
-    let a = derivation::check(password, salt, time, rows, columns, stored, matrix);
-    store_flag(a.refusal, a.same, same);
-    store_counts(a.refusal, a.full, a.reduced, a.rounds, counts);
-    a.refusal
+    let p = Parameters {
+        time,
+        rows,
+        columns,
+    };
+    let a = checking::check(password, salt, p, stored, matrix);
+    store_same(a, same);
+    store_costs(a.costs, counts)
 }
 
 // The cost question.
@@ -95,34 +109,27 @@ pub extern "C" fn lyra2_cost(
     columns: usize,
     counts: &mut [u64; 3],
 ) -> u32
-    ensures { λ r. ⌜ r ≡ first (costChecks key password salt time rows columns) ⌝ }
-    ensures { λ r. ⌜ now (counts .exit) ≡ costsStored (costAnswer r key password salt time rows columns) (now (counts .entry)) ⌝ }
+    ensures { λ r. ⌜ «counts-stored» r (now (counts .exit)) ≡ costAnswer (first (costChecks (lengthsOf key password salt) (parameters time rows columns))) (lengthsOf key password salt) (parameters time rows columns) ⌝ }
 {
-    let a = derivation::cost(key, password, salt, time, rows, columns);
-    store_counts(a.refusal, a.full, a.reduced, a.rounds, counts);
-    a.refusal
+    let l = Lengths {
+        key,
+        password,
+        salt,
+    };
+    let p = Parameters {
+        time,
+        rows,
+        columns,
+    };
+    store_costs(costs::cost(l, p), counts)
 }
 
 // The walk question: row1 of the Setup step that fills row0.
 #[no_mangle]
 pub extern "C" fn lyra2_walk(rows: usize, row0: usize, row1: &mut usize) -> u32
-    ensures { λ r. ⌜ r ≡ walkAnswer rows row0 .refusal ⌝ }
-    ensures { λ r. ⌜ now (row1 .exit) ≡ answered r (walkAnswer rows row0 .row1) (now (row1 .entry)) ⌝ }
+    ensures { λ r. ⌜ (r ≡ walkAnswer rows row0 .refusal) × (now (row1 .exit) ≡ walkAnswer rows row0 .row1) ⌝ }
 {
-    let a = walk_question::walk(rows, row0);
-    if a.refusal == 0 {
-        *row1 = a.row1;
-    }
-    a.refusal
-}
-
-// Stores the state of a recorded derivation that was carried out.
-fn store_state(refusal: u32, words: [u64; 16], state: &mut [u64; 16])
-    ensures { λ _. ⌜ now (state .exit) ≡ answered refusal words (now (state .entry)) ⌝ }
-{
-    if refusal == 0 {
-        *state = words;
-    }
+    store_row(walk_question::walk(rows, row0), row1)
 }
 
 // The recorded derivation: fills the key, the used matrix, the used record and the state after the last visit.
@@ -139,16 +146,14 @@ pub extern "C" fn lyra2_derive_recorded(
     state: &mut [u64; 16],
     counts: &mut [u64; 3],
 ) -> u32
-    ensures { λ r. ⌜ r ≡ first (recordedChecks (length (now (key .entry))) (length (now (password .entry))) (length (now (salt .entry))) time rows columns (length (now (matrix .entry))) (length (now («record» .entry)))) ⌝ }
-    ensures { λ r. ⌜ now (key .exit) ≡ answered r (keyOf profile (length (now (key .entry))) (now (password .entry)) (now (salt .entry)) time rows columns (now (matrix .entry))) (now (key .entry)) ⌝ }
-    ensures { λ r. ⌜ now (matrix .exit) ≡ answered r (endMatrix profile (length (now (key .entry))) (now (password .entry)) (now (salt .entry)) time rows columns (now (matrix .entry))) (now (matrix .entry)) ⌝ }
-    ensures { λ r. ⌜ now («record» .exit) ≡ answered r (putInto (now («record» .entry)) (endRecord (length (now (key .entry))) (now (password .entry)) (now (salt .entry)) time rows columns (now (matrix .entry)))) (now («record» .entry)) ⌝ }
-    ensures { λ r. ⌜ now (state .exit) ≡ answered r (endState (length (now (key .entry))) (now (password .entry)) (now (salt .entry)) time rows columns (now (matrix .entry))) (now (state .entry)) ⌝ }
-    ensures { λ r. ⌜ now (counts .exit) ≡ costsStored (costAnswer r (length (now (key .entry))) (length (now (password .entry))) (length (now (salt .entry))) time rows columns) (now (counts .entry)) ⌝ }
+    ensures { λ r. ⌜ Recorded (parameters time rows columns) (input (now (password .entry)) (now (salt .entry)) (length (now (key .entry)))) (now (key .entry)) (now (matrix .entry)) (now («record» .entry)) (now (key .exit)) (now (matrix .exit)) (now («record» .exit)) («counts-stored» r (now (counts .exit))) (now (state .exit)) ⌝ }
 {
-    let a = recorded::derive_recorded(password, salt, time, rows, columns, key, matrix, record);
-    let words = a.state;
-    store_state(a.refusal, words, state);
-    store_counts(a.refusal, a.full, a.reduced, a.rounds, counts);
-    a.refusal
+    let p = Parameters {
+        time,
+        rows,
+        columns,
+    };
+    let a = recorded::derive_recorded(password, salt, p, key, matrix, record);
+    store_state(a, state);
+    store_costs(a.costs, counts)
 }

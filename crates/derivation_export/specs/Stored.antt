@@ -1,0 +1,17 @@
+-- An answer under a C name: its number is returned, and its other fields are stored where the caller lends a place for them.
+use Prim.Native.Nat.{ℕ}
+use mathlib.Core.List.{List}
+use lib.ListN.{getD}
+use Rattle.settings.specs.declared.Parameters.{Parameters}
+use Rattle.settings.specs.declared.Lengths.{Lengths}
+use Rattle.derivation.specs.declared.Costs.{Costs}
+
+abbrev pub parameters : ℕ → ℕ → ℕ → Parameters
+parameters T R C = record { time = T; rows = R; columns = C }
+
+abbrev pub lengthsOf : ℕ → ℕ → ℕ → Lengths
+lengthsOf key password salt = record { key = key; password = password; salt = salt }
+
+-- the costs that a returned number and three stored counts are
+unfoldable pub stored : ℕ → List ℕ → Costs
+stored number counts = record { refusal = number; full = getD counts 0 0; reduced = getD counts 1 0; rounds = getD counts 2 0 }
