@@ -11,7 +11,7 @@ use lib.Dec.{eqb}
 use mathlib.Core.Logic.{⊎-elim}
 use borrow.Author.Tests.{eqb-true, eqb-false}
 use Rattle.setup_order.specs.declared.Order.{Order}
-use Rattle.setup_order.specs.SetupOrder.{Fits, firstOrder, moved, newWindow, nextOrder, order}
+use Rattle.setup_order.specs.SetupOrder.{Fits, firstOrder, moved, newWindow, nextOrder, order, row1Of}
 use Rattle.setup_order.proofs.OddSteps.{odd-cancel}
 
 -- with r = 2 ^ a: where gap is +1, wnd is 2·r² and stp is 2·r − 1; where it is −1, wnd is r² and stp is r + 1
@@ -146,12 +146,25 @@ order-fits k h =
     let n = numbers (order k .rising) (order-at k .window) in
     omega (arith, n, row1-lt-wnd (order-at k), wnd-le k)
 
--- the same by the row's number, as a loop over rows steps
-pub order-next : (row0 : ℕ) → 3 ≤ row0 → order (row0 + 1 - 3) ≡ nextOrder (order (row0 - 3))
-unfolding order
-order-next row0 h =
-    let more : row0 + 1 - 3 ≡ suc (row0 - 3) = omega arith in
-    ap order more
+-- ---- a loop over rows: o is the order of the row reached
 
-pub row-fits : (row0 : ℕ) → 3 ≤ row0 → row0 ≤ 2 ^ 32 → Fits (order (row0 - 3))
-row-fits row0 least most = order-fits (row0 - 3) (omega arith)
+pub record Reached (row : ℕ) (o : Order) : Type 0 where
+  pub least : 3 ≤ row
+  pub here : o ≡ order (row - 3)
+
+pub reached-first : {o : Order} → o ≡ firstOrder → Reached 3 o
+unfolding order
+reached-first e = record { least = omega arith; here = e }
+
+pub reached-next : {row : ℕ} {o p : Order} → Reached row o → p ≡ nextOrder o → Reached (row + 1) p
+unfolding order
+reached-next {row} q e =
+    let more : row + 1 - 3 ≡ suc (row - 3) = omega (arith, q .least) in
+    record { least = omega (arith, q .least); here = rw more (e ∙ ap nextOrder (q .here)) }
+
+pub reached-fits : {row : ℕ} {o : Order} → Reached row o → row ≤ 2 ^ 32 → Fits o
+reached-fits {row} q h = rw (q .here) (order-fits (row - 3) (omega (arith, q .least)))
+
+pub reached-row1 : {row : ℕ} {o : Order} → Reached row o → (o .row1 ≡ row1Of row) × (row1Of row < row)
+unfolding row1Of
+reached-row1 {row} q = (ap (λ (o : Order). o .row1) (q .here), omega (arith, q .least, row1-lt (row - 3)))
