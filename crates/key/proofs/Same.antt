@@ -2,11 +2,13 @@
 -- Assumes nothing.
 use mathlib.Core.Path.{_≡_, refl, sym, ap, ap₂, _∙_}
 use mathlib.Core.Bool.{Bool, true, false, _&&_, false≢true, and-eq-true-iff, and-true, and-assoc}
-use Prim.Native.Nat.{ℕ, zero, suc, _<_}
+use Prim.Native.Nat.{ℕ, zero, suc, _+_, _≤_, _<_}
 use native.Mathlib.Nat.{not-suc-le-zero, le-of-suc-le-suc}
 use native.Mathlib.Omega.{arith}
+use native.Mathlib.Numerals.{add-one}
 use mathlib.Core.List.{List, [], _∷_}
 use lib.ListN.{length, getD, take}
+use lib.Seq.{take-all}
 use lib.Dec.{eqb, eqb·suc-zero}
 use lib.Bits.{bitOr, bitXor, or-zero-l, or-add-and, and-le-l, and-le-r, xor-add-and, xor-self}
 use borrow.Author.Tests.{eqb-true, eqb-false, eq-eqb, ne-eqb}
@@ -56,11 +58,27 @@ or-decides (suc d) z =
     ne-eqb (bitOr (suc d) z) 0 (λ e. omega (arith, e, or-add-and (suc d) z, and-le-r (suc d) z))
     ∙ sym (ap (λ (b : Bool). b && eqb z 0) (eqb·suc-zero d))
 
--- the step of a loop that gathers the bits in which the bytes so far differ
-pub difference-more : (xs ys : List ℕ) (i d : ℕ) → i < length xs → i < length ys
-    → eqb d 0 ≡ sameBytes (take i xs) (take i ys)
-    → eqb (bitOr d (bitXor (getD xs i 0) (getD ys i 0))) 0 ≡ sameBytes (take (suc i) xs) (take (suc i) ys)
-difference-more xs ys i d hx hy e =
-    or-decides d (bitXor (getD xs i 0) (getD ys i 0))
-    ∙ ap₂ _&&_ e (xor-decides (getD xs i 0) (getD ys i 0) (eqb (getD xs i 0) (getD ys i 0)) refl)
-    ∙ sym (same-more xs ys i hx hy)
+-- a loop that gathers the bits in which the first i bytes of two lists differ
+pub record Differing (xs ys : List ℕ) (i d : ℕ) : Type 0 where
+  pub as-long : length ys ≡ length xs
+  pub told : eqb d 0 ≡ sameBytes (take i xs) (take i ys)
+
+pub differing-none : {xs ys : List ℕ} → length ys ≡ length xs → Differing xs ys 0 0
+unfolding sameBytes
+differing-none l = record { as-long = l; told = refl }
+
+pub differing-more : {xs ys : List ℕ} {i d : ℕ} → Differing xs ys i d → i < length xs → {e b : ℕ} → e ≡ bitOr d (bitXor (getD xs i 0) b)
+    → b ≡ getD ys i 0 → Differing xs ys (i + 1) e
+differing-more {xs} {ys} {i} {d} q h {e} {b} gathered byte =
+    record {
+      as-long = q .as-long;
+      told =
+          rw (add-one, gathered, byte)
+          (or-decides d (bitXor (getD xs i 0) (getD ys i 0))
+          ∙ ap₂ _&&_ (q .told) (xor-decides (getD xs i 0) (getD ys i 0) _ refl)
+          ∙ sym (same-more xs ys i h (omega (arith, q .as-long))));
+    }
+
+pub differing-end : {xs ys : List ℕ} {i d : ℕ} → Differing xs ys i d → length xs ≤ i → eqb d 0 ≡ sameBytes xs ys
+differing-end {xs} {ys} {i} q h =
+    q .told ∙ ap₂ sameBytes (take-all i xs h) (take-all i ys (omega (arith, q .as-long)))

@@ -1,16 +1,12 @@
 // Squeezing the key out of a state, and comparing it with a stored one byte by byte as it comes.
-use little_endian::byte_of;
-use sponge::duplex::full_call;
+use key_bytes::PIECE_BYTES;
+use key_bytes::next_byte;
 ghost use mathlib.Core.Path.{_≡_};
-ghost use Prim.Native.Nat.{_%_, _^_, _<_};
+ghost use Prim.Native.Nat.{_^_, _<_};
 ghost use lib.ListN.{length, getD};
 ghost use lib.Bits.{bitOr, bitXor};
 ghost use Rattle.permutation.specs.Word.{plainSum};
-ghost use Rattle.key.specs.Key.{fullCalls, piece, keyBytes, pieces, callsBetween, callsBefore, squeezed, sameBytes};
-
-const PIECE_BYTES: usize = 96;
-
-const WORD_BYTES: usize = 8;
+ghost use Rattle.key.specs.Key.{keyBytes, pieces, callsBetween, squeezed, sameBytes};
 
 // How many pieces a key of so many bytes takes.
 pub fn piece_count(bytes: usize) -> usize
@@ -18,43 +14,6 @@ pub fn piece_count(bytes: usize) -> usize
     ensures { λ r. ⌜ r ≡ pieces bytes ⌝ }
 {
     (bytes + PIECE_BYTES - 1) / PIECE_BYTES
-}
-
-// The full call between two pieces: it is made before the first byte of each piece but the first.
-fn call_between(s: &mut [u64; 16], i: usize) -> u64
-    ensures { λ r. ⌜ (now (s .exit) ≡ fullCalls plainSum (callsBefore i) (now (s .entry))) × (r ≡ callsBefore i) ⌝ }
-{
-    if i % PIECE_BYTES != 0 {
-        return 0;
-    }
-    if i == 0 {
-        return 0;
-    }
-    full_call(s);
-    1
-}
-
-// A byte of the output.
-fn output_byte(s: &[u64; 16], i: usize) -> u8
-    requires { ⌜ i < 96 ⌝ }
-    ensures { λ r. ⌜ r ≡ getD (piece (now (s .entry))) i 0 ⌝ }
-{
-    byte_of(s[i / WORD_BYTES], i % WORD_BYTES)
-}
-
-// A byte of the key, with the full calls that were made for it.
-struct Next {
-    byte: u8,
-    calls: u64,
-}
-
-// Byte i of the key, out of the state that the bytes before it left.
-fn next_byte(s: &mut [u64; 16], i: usize) -> Next
-    ensures { λ r. ⌜ (now (s .exit) ≡ fullCalls plainSum (callsBefore i) (now (s .entry))) × (r .byte ≡ getD (piece (now (s .exit))) (i % 96) 0) × (r .calls ≡ callsBefore i) ⌝ }
-{
-    let calls = call_between(s, i);
-    let byte = output_byte(s, i % PIECE_BYTES);
-    Next { byte, calls }
 }
 
 // Fills the whole key, and returns how many full calls were made.

@@ -19,15 +19,15 @@ abbrev pub Shape : Bool → ℕ → ℕ → ℕ → Type 0
 Shape true a wnd stp = (wnd ≡ 2 ^ suc (a + a)) × (suc stp ≡ 2 ^ suc a)
 Shape false a wnd stp = (wnd ≡ 2 ^ (a + a)) × (stp ≡ suc (2 ^ a)) × (0 < a)
 
--- the window of an order; sqrt is 2·r in both shapes
-pub record Window (o : Order) : Type 0 where
+-- sqrt is 2·r in both shapes
+pub record Window (rising : Bool) (wnd stp sqrt : ℕ) : Type 0 where
   pub a : ℕ
-  pub sqrt-is : o .sqrt ≡ 2 ^ suc a
-  pub shape : Shape (o .rising) a (o .wnd) (o .stp)
+  pub sqrt-is : sqrt ≡ 2 ^ suc a
+  pub shape : Shape rising a wnd stp
 
 -- the order of the row row0: j rows were filled since the window began
 pub record AtRow (row0 : ℕ) (o : Order) : Type 0 where
-  pub window : Window o
+  pub window : Window (o .rising) (o .wnd) (o .stp) (o .sqrt)
   pub j : ℕ
   pub row0-is : row0 ≡ o .wnd + j
   pub j-lt : j < o .wnd
@@ -35,69 +35,34 @@ pub record AtRow (row0 : ℕ) (o : Order) : Type 0 where
   pub prev1-lt : o .prev1 < o .wnd
 
 -- what both shapes have
-pub record Numbers (wnd stp sqrt : ℕ) : Type 0 where
-  pub e : ℕ
+pub record Numbers (e wnd stp sqrt : ℕ) : Type 0 where
   pub wnd-is : wnd ≡ 2 ^ e
   pub stp-odd : stp % 2 ≡ 1
   pub stp-lt : stp < wnd
   pub sqrt-pos : 0 < sqrt
   pub sqrt-le : sqrt ≤ wnd
 
-shape-numbers : (b : Bool) (a wnd stp : ℕ) → Shape b a wnd stp → Numbers wnd stp (2 ^ suc a)
-shape-numbers true a wnd stp h =
-    let double = pow-suc 2 a in
-    let pos = pow-pos a in
-    let le : 2 ^ suc a ≤ 2 ^ suc (a + a) = pow-mono (omega arith) in
-    record {
-      e = suc (a + a);
-      wnd-is = h .0;
-      stp-odd = omega arith;
-      stp-lt = omega arith;
-      sqrt-pos = omega arith;
-      sqrt-le = omega arith;
-    }
-shape-numbers false zero wnd stp h = absurd (omega arith)
-shape-numbers false (suc a) wnd stp h =
-    let double = pow-suc 2 a in
-    let again = pow-suc 2 (suc a) in
-    let pos = pow-pos a in
-    let le : 2 ^ suc (suc a) ≤ 2 ^ (suc a + suc a) = pow-mono (omega arith) in
-    record {
-      e = suc a + suc a;
-      wnd-is = h .0;
-      stp-odd = omega arith;
-      stp-lt = omega arith;
-      sqrt-pos = omega arith;
-      sqrt-le = omega arith;
-    }
+abbrev exponent : Bool → ℕ → ℕ
+exponent true a = suc (a + a)
+exponent false a = a + a
 
-pub numbers : {o : Order} → Window o → Numbers (o .wnd) (o .stp) (o .sqrt)
-numbers {o} w = rw (w .sqrt-is) (shape-numbers (o .rising) (w .a) (o .wnd) (o .stp) (w .shape))
+pub numbers : (b : Bool) {wnd stp sqrt : ℕ} (w : Window b wnd stp sqrt) → Numbers (exponent b (w .a)) wnd stp sqrt
+numbers true w =
+    let le : 2 ^ suc (w .a) ≤ 2 ^ suc (w .a + w .a) = pow-mono (omega arith) in
+    omega (arith, pow-suc 2 (w .a), pow-pos (w .a), w .shape .0, w .shape .1)
+numbers false w =
+    let even : 2 ^ w .a ≡ 2 ^ (w .a - 1) * 2 = ap (λ (n : ℕ). 2 ^ n) (omega (arith, w .shape .2)) ∙ pow-suc 2 (w .a - 1) in
+    let le : 2 ^ suc (w .a) ≤ 2 ^ (w .a + w .a) = pow-mono (omega (arith, w .shape .2)) in
+    omega (arith, pow-suc 2 (w .a), pow-pos (w .a - 1), w .shape .0, w .shape .1)
 
--- the exponent of the next window's root
-abbrev next-a : Bool → ℕ → ℕ
-next-a true a = suc a
-next-a false a = a
-
-next-sqrt : (b : Bool) (a sqrt : ℕ) → sqrt ≡ 2 ^ suc a → cond (not b) sqrt (2 * sqrt) ≡ 2 ^ suc (next-a b a)
-next-sqrt true a sqrt h = omega (arith, pow-suc 2 (suc a))
-next-sqrt false a sqrt h = h
-
-next-shape : (b : Bool) (a wnd stp sqrt : ℕ) → sqrt ≡ 2 ^ suc a → Shape b a wnd stp
-    → Shape (not b) (next-a b a) (2 * wnd) (cond b (sqrt + 1) (sqrt - 1))
-next-shape true a wnd stp sqrt s h =
-    let squared : 2 ^ (suc a + suc a) ≡ 2 ^ suc (a + a) * 2 = ap (λ (n : ℕ). 2 ^ n) (omega arith) ∙ pow-suc 2 (suc (a + a)) in
-    (omega arith, omega arith, omega arith)
-next-shape false a wnd stp sqrt s h = (omega (arith, pow-suc 2 (a + a)), omega (arith, pow-pos (suc a)))
-
-pub next-window : {o : Order} → Window o → Window (newWindow o)
-unfolding newWindow
-next-window {o} w =
-    record {
-      a = next-a (o .rising) (w .a);
-      sqrt-is = next-sqrt (o .rising) (w .a) (o .sqrt) (w .sqrt-is);
-      shape = next-shape (o .rising) (w .a) (o .wnd) (o .stp) (o .sqrt) (w .sqrt-is) (w .shape);
-    }
+next-window : (b : Bool) (wnd stp sqrt : ℕ) → Window b wnd stp sqrt
+    → Window (not b) (2 * wnd) (cond b (sqrt + 1) (sqrt - 1)) (cond (not b) sqrt (2 * sqrt))
+next-window true wnd stp sqrt w =
+    let squared : 2 ^ (suc (w .a) + suc (w .a)) ≡ 2 ^ suc (w .a + w .a) * 2 =
+    ap (λ (n : ℕ). 2 ^ n) (omega arith) ∙ pow-suc 2 (suc (w .a + w .a)) in
+    record { a = suc (w .a); sqrt-is = omega (arith, pow-suc 2 (suc (w .a))); shape = omega (arith, w .shape .0) }
+next-window false wnd stp sqrt w =
+    record { a = w .a; sqrt-is = w .sqrt-is; shape = omega (arith, pow-suc 2 (w .a + w .a), pow-pos (suc (w .a)), w .shape .0) }
 
 pub row1-lt-wnd : {row0 : ℕ} {o : Order} → AtRow row0 o → o .row1 < o .wnd
 row1-lt-wnd {o = o} h = rw (h .row1-is) (mod-lt (h .j * o .stp) (omega (arith, h .j-lt)))
@@ -113,25 +78,21 @@ module _ {row0 : ℕ} {o : Order} (h : AtRow row0 o) where
   -- row1 is back at 0 where the window is full, and only there
   full : moved o .row1 ≡ 0 → suc (h .j) ≡ o .wnd
   full z =
-      let n = numbers (h .window) in
-      let multiple : (suc (h .j) * o .stp) % 2 ^ n .e ≡ 0 = rw (n .wnd-is) at (sym row1-moves ∙ z) in
-      let none : suc (h .j) % o .wnd ≡ 0 = rw (n .wnd-is) (odd-cancel (n .e) (suc (h .j)) (o .stp) (n .stp-odd) multiple) in
+      let n = numbers (o .rising) (h .window) in
+      let none : suc (h .j) % o .wnd ≡ 0 =
+      rw (n .wnd-is) (odd-cancel _ (suc (h .j)) (o .stp) (n .stp-odd) (rw (n .wnd-is) at (sym row1-moves ∙ z))) in
       ⊎-elim (λ eq. eq) (λ lt. absurd (omega (arith, none, mod-eq-of-lt lt))) (eq-or-lt-of-le (h .j-lt))
 
   not-full : (moved o .row1 ≡ 0 → ⊥) → suc (h .j) < o .wnd
   not-full nz =
       lt-of-le-ne (h .j-lt) (λ eq. nz (row1-moves ∙ ap (λ (n : ℕ). (n * o .stp) % o .wnd) eq ∙ mul-mod-right (o .wnd) (o .stp)))
 
-  window-moves : Window (moved o)
-  unfolding moved
-  window-moves = record { a = h .window .a; sqrt-is = h .window .sqrt-is; shape = h .window .shape }
-
   after : (t : Bool) → eqb (moved o .row1) 0 ≡ t → AtRow (suc row0) (cond t (newWindow (moved o)) (moved o))
   unfolding moved newWindow
   after true e =
       let z : moved o .row1 ≡ 0 = eqb-true _ _ e in
       record {
-        window = next-window window-moves;
+        window = next-window (o .rising) (o .wnd) (o .stp) (o .sqrt) (h .window);
         j = 0;
         row0-is = omega (arith, full z, h .row0-is);
         j-lt = omega (arith, h .j-lt);
@@ -140,7 +101,7 @@ module _ {row0 : ℕ} {o : Order} (h : AtRow row0 o) where
       }
   after false e =
       record {
-        window = window-moves;
+        window = h .window;
         j = suc (h .j);
         row0-is = omega (arith, h .row0-is);
         j-lt = not-full (eqb-false _ _ e);
@@ -182,27 +143,28 @@ prev1-lt k = omega (arith, order-at k .prev1-lt, wnd-le k)
 
 pub order-fits : (k : ℕ) → 3 + k ≤ 2 ^ 32 → Fits (order k)
 order-fits k h =
-    let at = order-at k in
-    let n = numbers (at .window) in
-    record {
-      wnd-pos = omega (arith, n .stp-lt);
-      wnd-fits = omega (arith, wnd-le k);
-      row1-lt = row1-lt-wnd at;
-      stp-lt = n .stp-lt;
-      sqrt-pos = n .sqrt-pos;
-      sqrt-le = n .sqrt-le;
-    }
+    let n = numbers (order k .rising) (order-at k .window) in
+    omega (arith, n, row1-lt-wnd (order-at k), wnd-le k)
 
--- the same by the row's number, as a loop over rows steps
-pub order-next : (row0 : ℕ) → 3 ≤ row0 → order (row0 + 1 - 3) ≡ nextOrder (order (row0 - 3))
+-- ---- a loop over rows: o is the order of the row reached
+
+pub record Reached (row : ℕ) (o : Order) : Type 0 where
+  pub least : 3 ≤ row
+  pub here : o ≡ order (row - 3)
+
+pub reached-first : {o : Order} → o ≡ firstOrder → Reached 3 o
 unfolding order
-order-next row0 h =
-    let more : row0 + 1 - 3 ≡ suc (row0 - 3) = omega arith in
-    ap order more
+reached-first e = record { least = omega arith; here = e }
 
-pub row-fits : (row0 : ℕ) → 3 ≤ row0 → row0 ≤ 2 ^ 32 → Fits (order (row0 - 3))
-row-fits row0 least most = order-fits (row0 - 3) (omega arith)
+pub reached-next : {row : ℕ} {o p : Order} → Reached row o → p ≡ nextOrder o → Reached (row + 1) p
+unfolding order
+reached-next {row} q e =
+    let more : row + 1 - 3 ≡ suc (row - 3) = omega (arith, q .least) in
+    record { least = omega (arith, q .least); here = rw more (e ∙ ap nextOrder (q .here)) }
 
-pub row1Of-lt : (row0 : ℕ) → 3 ≤ row0 → row1Of row0 < row0
+pub reached-fits : {row : ℕ} {o : Order} → Reached row o → row ≤ 2 ^ 32 → Fits o
+reached-fits {row} q h = rw (q .here) (order-fits (row - 3) (omega (arith, q .least)))
+
+pub reached-row1 : {row : ℕ} {o : Order} → Reached row o → (o .row1 ≡ row1Of row) × (row1Of row < row)
 unfolding row1Of
-row1Of-lt row0 h = omega (arith, row1-lt (row0 - 3))
+reached-row1 {row} q = (ap (λ (o : Order). o .row1) (q .here), omega (arith, q .least, row1-lt (row - 3)))

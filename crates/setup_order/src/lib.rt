@@ -50,23 +50,26 @@ impl Order {
         requires { ⌜ Fits self ⌝ }
         ensures { λ r. ⌜ r ≡ nextOrder self ⌝ }
     {
-        let row1 = (self.row1 + self.stp) % self.wnd;
+        let wnd = self.wnd;
+        let doubled = 2 * wnd;
+        let row1 = (self.row1 + self.stp) % wnd;
         let moved = Order {
             stp: self.stp,
-            wnd: self.wnd,
+            wnd,
             sqrt: self.sqrt,
             rising: self.rising,
             row1,
             prev1: self.row1,
         };
         if row1 == 0 {
-            return moved.new_window();
+            return moved.new_window(doubled);
         }
         moved
     }
 
-    fn new_window(self) -> Order
-        requires { ⌜ (self .wnd ≤ 2 ^ 32) × (0 < self .sqrt) × (self .sqrt ≤ 2 ^ 32) ⌝ }
+    // A window twice as wide.
+    fn new_window(self, wnd: usize) -> Order
+        requires { ⌜ (wnd ≡ 2 * self .wnd) × (0 < self .sqrt) × (self .sqrt ≤ 2 ^ 32) ⌝ }
         ensures { λ r. ⌜ r ≡ newWindow self ⌝ }
     {
         let rising = !self.rising;
@@ -74,7 +77,7 @@ impl Order {
         let sqrt = next_sqrt(self.sqrt, rising);
         Order {
             stp,
-            wnd: 2 * self.wnd,
+            wnd,
             sqrt,
             rising,
             row1: self.row1,

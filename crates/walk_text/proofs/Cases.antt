@@ -3,8 +3,10 @@ use mathlib.Core.Path.{_≡_, refl}
 use mathlib.Core.List.{[], _∷_, _++_}
 use Rattle.refusals.specs.Checks.{first}
 use Rattle.setup_order.specs.SetupOrder.{firstOrder, moved, newWindow, nextOrder, order, row1Of}
-use Rattle.walk_text.specs.Input.{numberFrom, rowsRead}
-use Rattle.walk_text.specs.Output.{decimalUpTo, line, stepLines, refusedLine, walkOutput}
+use Rattle.text.specs.Text.{decimalUpTo, numberFrom}
+use Rattle.walk_input.specs.Input.{rowsRead}
+use Rattle.walk_lines.specs.Lines.{line, stepLines}
+use Rattle.walk_text.specs.Output.{refusedLine, walkOutput}
 
 -- `3 1`, `4 0`, `5 3`, `6 2`, `7 1`
 pub output-for-8 : walkOutput (56 ∷ 10 ∷ [])

@@ -1,4 +1,2 @@
--- The walk program as a function of bytes: what it reads, and what it writes.
-pub mod Input
+-- The walk program as a function of bytes.
 pub mod Output
-pub mod Appended

@@ -1,0 +1,2 @@
+-- The laws of the key's bytes and of the calls between them.
+pub mod KeyLaws

@@ -1,0 +1,2 @@
+-- The key that a state gives.
+pub mod KeyBytes

@@ -1,0 +1,25 @@
+-- `number` meets its contract. The loop's invariant: the digits from i on, after v, stand for the whole number. Assumes nothing.
+use Prim.Native.Nat.{_-_}
+use native.Mathlib.Omega.{arith}
+use lib.ListN.{length}
+use Rattle.text.proofs.Reading.{Reading, reading-none, reading-more, reading-end, reading-room, below-digits, above-digits}
+use Rattle.text.proofs.number.Statement.{statement}
+use Rattle.text.proofs.number.Tie as tie
+
+abbrev Inv-loop : tie.InvT-loop
+Inv-loop digits v₀ i₀ v i = Reading digits i v
+
+abbrev μ-loop : tie.MeasureT-loop
+μ-loop digits v₀ i₀ v i = length digits - i
+
+pub number-spec : {M : Type 1} → statement M
+number-spec =
+    tie.close
+    (tie.spec Inv-loop μ-loop (λ c. reading-none) (omega arith) (λ c κs. tt)
+    (λ c. below-digits (c .before .before .before .before .loop .inv) (omega arith) (c .before .widened .ensures) (omega arith))
+    (λ c. above-digits (c .before .before .before .before .before .loop .inv) (omega arith) (c .before .before .widened .ensures) (omega arith))
+    (λ c. omega (arith, reading-room (c .before .before .before .before .before .loop .inv) (omega arith)))
+    (λ c. omega (arith, reading-room (c .before .before .before .before .before .loop .inv) (omega arith)))
+    (omega arith) (omega arith)
+    (λ c. reading-more (c .before .before .before .before .before .loop .inv) (omega arith) (c .before .before .widened .ensures) (omega arith) (omega arith))
+    (λ c. reading-end (c .before .loop .inv) (omega arith)))

@@ -1,0 +1,2 @@
+-- Text in a buffer, and numbers in decimal digits.
+pub mod Text

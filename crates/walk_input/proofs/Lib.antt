@@ -1,0 +1,2 @@
+-- The laws of the walk program's input.
+pub mod InputForm

@@ -1,0 +1,2 @@
+-- R as standard input gives it.
+pub mod Input

@@ -1,0 +1,2 @@
+-- The laws of the lines of the Setup steps.
+pub mod LineLaws

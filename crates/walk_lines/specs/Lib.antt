@@ -1,0 +1,2 @@
+-- The lines of the Setup steps.
+pub mod Lines
