@@ -12,16 +12,8 @@ use Rattle.profile.specs.Profile.{quads}
 use Rattle.permutation.specs.Round.{applyG, applyAll}
 
 pub record Spread (q : Quad) : Type 0 where
-  pub in0 : q .0 < 16
-  pub in1 : q .1 < 16
-  pub in2 : q .2 < 16
-  pub in3 : q .3 < 16
-  pub d01 : q .0 ≢ q .1
-  pub d02 : q .0 ≢ q .2
-  pub d03 : q .0 ≢ q .3
-  pub d12 : q .1 ≢ q .2
-  pub d13 : q .1 ≢ q .3
-  pub d23 : q .2 ≢ q .3
+  pub inside : (q .0 < 16) × (q .1 < 16) × (q .2 < 16) × (q .3 < 16)
+  pub apart : (q .0 ≢ q .1) × (q .0 ≢ q .2) × (q .0 ≢ q .3) × (q .1 ≢ q .2) × (q .1 ≢ q .3) × (q .2 ≢ q .3)
 
 -- a property of every element of a list
 abbrev pub Each : (Quad → Type 0) → List Quad → Type 0

@@ -1,7 +1,7 @@
 -- The inverses of the round and of n rounds.
 use Prim.Native.Nat.{ℕ, zero, suc}
 use mathlib.Core.List.{List, [], _∷_}
-pub use Rattle.mixer.specs.Addition.{Addition, Undoes, plainBack, plain}
+pub use Rattle.mixer.specs.Word.{Addition, Undoes, plain}
 use Rattle.mixer.specs.G.{unG}
 use Rattle.profile.specs.declared.Quad.{Quad}
 use Rattle.profile.specs.Profile.{quads}

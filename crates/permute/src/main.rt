@@ -1,6 +1,6 @@
 // Prints a full call of the permutation, a word to a line in hexadecimal: of the state that standard
 // input holds as sixteen little-endian words or, where the input is empty, of the starting state.
-use sponge::profile::Profile;
+use profile::Profile;
 
 const STATE_BYTES: usize = 128;
 

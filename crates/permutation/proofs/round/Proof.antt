@@ -11,21 +11,19 @@ use Rattle.permutation.proofs.Quads.{quad-spread, applyAll-step, applyA
 use Rattle.permutation.proofs.round.Statement.{statement}
 use Rattle.permutation.proofs.round.Tie as tie
 
-abbrev Inv-loop : tie.InvT-loop
-Inv-loop s₀ quads n₀ s n = (n ≤ 8) × (applyAll plainSum (drop n quads) s ≡ round plainSum s₀)
-
-abbrev μ-loop : tie.MeasureT-loop
-μ-loop s₀ quads n₀ s n = 8 - n
-
 pub round-spec : {M : Type 1} → statement M
 unfolding round
 round-spec =
     tie.close
-    (tie.spec Inv-loop μ-loop (omega arith) (λ c. (omega arith, cc))
-    (omega arith) (omega arith)
+    (tie.spec (λ s₀ quads n₀ s n. (n ≤ 8) × (applyAll plainSum (drop n quads) s ≡ round plainSum s₀)) (λ s₀ quads n₀ s n. 8 - n)
+    (omega arith) (λ c. (omega arith, cc)) (omega arith) (omega arith)
     (λ c κs. omega (arith, quad-spread _ (0, 0, 0, 0) (c .before .before .before .loop .n) (c .before .before .before .before .quads .ensures) (omega arith)))
     (omega arith) (omega arith)
     (λ c.
-    let head = c .before .before .before .before in
-    (omega arith, rw add-one (ap (applyAll plainSum _) (c .apply-g .ensures) ∙ sym (applyAll-step plainSum (head .before .quads .result) (head .loop .n) (head .loop .s) (0, 0, 0, 0) (omega arith)) ∙ head .loop .inv .1)))
+    let head = c .before .before .before .before in (
+      omega arith,
+      rw add-one (ap (applyAll plainSum _) (c .apply-g .ensures)
+          ∙ sym (applyAll-step plainSum (head .before .quads .result) (head .loop .n) (head .loop .s) (0, 0, 0, 0) (omega arith))
+          ∙ head .loop .inv .1),
+    ))
     (λ c. sym (applyAll-end plainSum _ (c .before .loop .n) _ (omega arith)) ∙ c .before .loop .inv .1))

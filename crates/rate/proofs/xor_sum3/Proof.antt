@@ -10,17 +10,16 @@ use Rattle.rate.proofs.Sums.{length-sum, sum-at}
 use Rattle.rate.proofs.xor_sum3.Statement.{statement}
 use Rattle.rate.proofs.xor_sum3.Tie as tie
 
-abbrev Inv-loop : tie.InvT-loop
-Inv-loop s₀ a b c j₀ s j = Placed bitXor 0 s₀ (cellSum (cellSum a b) c) s j 12
-
-abbrev μ-loop : tie.MeasureT-loop
-μ-loop s₀ a b c j₀ s j = 12 - j
-
 pub xor-sum3-spec : {M : Type 1} → statement M
 unfolding zipAt
 xor-sum3-spec =
     tie.close
-    (tie.spec Inv-loop μ-loop (λ c. placed-none bitXor) (omega arith) (omega arith) (omega arith) (omega arith) (omega arith) (omega arith) (omega arith) (omega arith) (omega arith) (omega arith) (omega arith) (omega arith) (omega arith)
-    (λ c. placed-again bitXor (c .before .before .before .before .before .before .loop .inv) (length-sum 12 _ _ (length-sum 12 _ _ (search))) (omega arith) (omega arith)
-    (c .sum3 .ensures ∙ (sum-at 12 _ _ (length-sum 12 _ _ (search)) (search) _ _ _ (omega arith) (sum-at 12 _ _ (search) (search) _ _ _ (omega arith) refl refl) refl)))
-    (λ c. placed-end bitXor (c .before .loop .inv) (length-sum 12 _ _ (length-sum 12 _ _ (search))) (omega arith)))
+    (tie.spec (λ s₀ a b c j₀ s j. Placed bitXor 0 s₀ (cellSum (cellSum a b) c) s j 12) (λ s₀ a b c j₀ s j. 12 - j)
+    (λ c. placed-none bitXor (length-sum 12 _ _ (length-sum 12 _ _ (search)))) (omega arith) (omega arith) (omega arith)
+    (omega arith) (omega arith) (omega arith) (omega arith) (omega arith) (omega arith) (omega arith) (omega arith)
+    (omega arith) (omega arith)
+    (λ c. placed-again bitXor (c .before .before .before .before .before .before .loop .inv) (omega arith) (omega arith)
+    (c .sum3 .ensures
+    ∙ sum-at 12 _ _ (length-sum 12 _ _ (search)) (search) _ _ _ (omega arith)
+    (sum-at 12 _ _ (search) (search) _ _ _ (omega arith) refl refl) refl))
+    (λ c. placed-end bitXor (c .before .loop .inv) (omega arith)))
