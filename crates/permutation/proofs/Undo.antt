@@ -3,7 +3,7 @@ use mathlib.Core.Path.{_≡_, refl, sym, ap, _∙_}
 use mathlib.Core.Logic.{_≢_}
 use Prim.Native.Nat.{ℕ, zero, suc, _<_}
 use native.Mathlib.Omega.{arith}
-use mathlib.Core.List.{List, [], _∷_}
+use mathlib.Core.List.{List, [], _∷_, foldl, foldr}
 use lib.ListN.{length}
 use lib.Seq.{lt-length-set, getD-set-same, getD-set-other, set-getD, set-set, set-comm}
 use Rattle.mixer.specs.declared.Words.{Words}
@@ -13,8 +13,8 @@ use Rattle.mixer.proofs.GLaws.{FourWords, G-words, G-undo}
 use Rattle.profile.specs.declared.Quad.{Quad}
 use Rattle.profile.specs.Profile.{quads}
 use Rattle.lists.proofs.Words.{AllWords}
-use Rattle.permutation.specs.Round.{wordsAt, putWords, applyG, applyAll, round, rounds}
-use Rattle.permutation.specs.Inverse.{unapplyG, unapplyAll, unround, unrounds}
+use Rattle.permutation.specs.Round.{wordsAt, putWords, applyG, round, rounds}
+use Rattle.permutation.specs.Inverse.{unapplyG, unround, unrounds}
 use Rattle.permutation.proofs.State.{IsState, set-state}
 use Rattle.permutation.proofs.Quads.{Spread, Each, quads-spread}
 
@@ -63,25 +63,22 @@ module _ {A : Addition} (u : Undoes A) where
       ∙ G-undo u (wordsAt q s) (wordsAt-words q s (hs .word)))
       ∙ put-put q (a .0) (a .1) (a .2) (a .3) (a .4) (a .5) w s (wordsAt q s) ∙ put-wordsAt q s
 
-  applyAll-state : (qs : List Quad) {s : List ℕ} → IsState s → IsState (applyAll (A .sum) qs s)
-  unfolding applyAll
-  applyAll-state [] hs = hs
-  applyAll-state (q ∷ qs) hs = applyAll-state qs (applyG-state q hs)
+  all-state : (qs : List Quad) {s : List ℕ} → IsState s → IsState (foldl (λ t q. applyG (A .sum) q t) s qs)
+  all-state [] hs = hs
+  all-state (q ∷ qs) hs = all-state qs (applyG-state q hs)
 
-  applyAll-undo : (qs : List Quad) → Each Spread qs → (s : List ℕ) → IsState s → unapplyAll (A .back) qs (applyAll (A .sum) qs s) ≡ s
-  unfolding applyAll unapplyAll
-  applyAll-undo [] h s hs = refl
-  applyAll-undo (q ∷ qs) h s hs =
-      ap (unapplyG (A .back) q) (applyAll-undo qs (h .1) (applyG (A .sum) q s) (applyG-state q hs))
-      ∙ applyG-undo q (h .0) s hs
+  all-undo : (qs : List Quad) → Each Spread qs → (s : List ℕ) → IsState s → foldr (unapplyG (A .back)) (foldl (λ t q. applyG (A .sum) q t) s qs) qs ≡ s
+  all-undo [] h s hs = refl
+  all-undo (q ∷ qs) h s hs =
+      ap (unapplyG (A .back) q) (all-undo qs (h .1) (applyG (A .sum) q s) (applyG-state q hs)) ∙ applyG-undo q (h .0) s hs
 
   pub round-state : {s : List ℕ} → IsState s → IsState (round (A .sum) s)
   unfolding round
-  round-state = applyAll-state quads
+  round-state = all-state quads
 
   pub round-undo : (s : List ℕ) → IsState s → unround (A .back) (round (A .sum) s) ≡ s
   unfolding round unround
-  round-undo = applyAll-undo quads quads-spread
+  round-undo = all-undo quads quads-spread
 
   pub rounds-state : (n : ℕ) {s : List ℕ} → IsState s → IsState (rounds (A .sum) n s)
   unfolding rounds
