@@ -1,4 +1,5 @@
 -- Lists of words, each below 2^64. Assumes nothing.
+use mathlib.Core.Path.{_≡_, refl, ap₂}
 use Prim.Native.Nat.{ℕ, zero, suc, _^_, _<_}
 use native.Mathlib.Omega.{arith}
 use mathlib.Core.List.{List, [], _∷_}
@@ -23,6 +24,19 @@ EachWord (x ∷ s) = (x < 2 ^ 64) × EachWord s
 pub each-words : (s : List ℕ) → EachWord s → AllWords s
 each-words [] h = none-words
 each-words (x ∷ s) h = cons-words x s (h .0) (each-words s (h .1))
+
+-- two lists that are written out are equal where each element is
+abbrev pub EachSame : List ℕ → List ℕ → Type 0
+EachSame [] [] = Unit {0}
+EachSame [] (y ∷ ys) = ⊥
+EachSame (x ∷ xs) [] = ⊥
+EachSame (x ∷ xs) (y ∷ ys) = (x ≡ y) × EachSame xs ys
+
+pub each-same : (xs ys : List ℕ) → EachSame xs ys → xs ≡ ys
+each-same [] [] h = refl
+each-same [] (y ∷ ys) h = absurd h
+each-same (x ∷ xs) [] h = absurd h
+each-same (x ∷ xs) (y ∷ ys) h = ap₂ (λ (z : ℕ) (zs : List ℕ). z ∷ zs) (h .0) (each-same xs ys (h .1))
 
 pub set-words : (s : List ℕ) (k v : ℕ) → AllWords s → v < 2 ^ 64 → AllWords (set s k v)
 set-words [] k v hs hv = hs

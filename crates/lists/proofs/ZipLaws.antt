@@ -5,7 +5,7 @@ use native.Mathlib.Nat.{not-suc-le-zero, le-of-suc-le-suc, suc-inj, zero-add, su
 use native.Mathlib.Omega.{arith}
 use native.Mathlib.Numerals.{add-one}
 use mathlib.Core.List.{List, [], _∷_, _++_}
-use lib.ListN.{length, getD, take, set}
+use lib.ListN.{length, getD, take, drop, set, take-append-drop}
 use lib.Seq.{take-all}
 use lib.Bits.{bitXor, xor-lt}
 use Rattle.lists.specs.Zip.{zipInto, zipAt, xorInto, putInto, tabulate}
@@ -113,17 +113,7 @@ module _ (f : ℕ → ℕ → ℕ) where
 
   pub zipAt-none : (a : ℕ) (xs : List ℕ) → zipAt f a xs [] ≡ xs
   unfolding zipAt
-  zipAt-none zero xs = zip-none f xs
-  zipAt-none (suc a) [] = zip-none f []
-  zipAt-none (suc a) (x ∷ xs) = ap (λ (l : List ℕ). x ∷ l) (zipAt-none a xs)
-
-  -- what stands before the place is kept
-  pub getD-before : (a : ℕ) (xs ys : List ℕ) (i : ℕ) → i < a → getD (zipAt f a xs ys) i 0 ≡ getD xs i 0
-  unfolding zipAt zipInto
-  getD-before zero xs ys i h = absurd (not-suc-le-zero h)
-  getD-before (suc a) [] ys i h = refl
-  getD-before (suc a) (x ∷ xs) ys zero h = refl
-  getD-before (suc a) (x ∷ xs) ys (suc i) h = getD-before a xs ys i (le-of-suc-le-suc h)
+  zipAt-none a xs = ap (λ (l : List ℕ). take a xs ++ l) (zip-none f (drop a xs)) ∙ take-append-drop a xs
 
   -- one place more
   pub zipAt-more : (a : ℕ) (xs ys : List ℕ) (j : ℕ) → j < length ys
@@ -158,12 +148,6 @@ put-append a xs [] zs =
 put-append a xs (y ∷ ys) zs =
     put-suc a xs y (ys ++ zs) ∙ put-append (suc a) (set xs a y) ys zs
     ∙ ap₂ (λ (n : ℕ) (l : List ℕ). zipAt (λ x y. y) n l zs) (suc-add a (length ys) ∙ sym (add-suc a (length ys))) (sym (put-suc a xs y ys))
-
--- the last word put by itself
-pub put-snoc : (a : ℕ) (xs ys : List ℕ) (v : ℕ) → zipAt (λ x y. y) a xs (ys ++ (v ∷ [])) ≡ set (zipAt (λ x y. y) a xs ys) (a + length ys) v
-put-snoc a xs ys v =
-    put-append a xs ys (v ∷ []) ∙ put-suc (a + length ys) (zipAt (λ x y. y) a xs ys) v []
-    ∙ zipAt-none (λ x y. y) (suc (a + length ys)) (set (zipAt (λ x y. y) a xs ys) (a + length ys) v)
 
 -- what was put is what stands in front
 pub put-front : (xs ys : List ℕ) → length ys ≤ length xs → take (length ys) (putInto xs ys) ≡ ys

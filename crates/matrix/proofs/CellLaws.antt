@@ -9,7 +9,8 @@ use lib.Seq.{getD-take, getD-drop}
 use lib.Bits.{bitXor}
 use Rattle.lists.specs.Zip.{zipAt, xorInto}
 use Rattle.lists.proofs.Words.{AllWords}
-use Rattle.lists.proofs.ZipLaws.{length-tabulate, getD-tabulate, tabulate-words, getD-zip, getD-before}
+use Rattle.lists.proofs.ZipLaws.{length-tabulate, getD-tabulate, tabulate-words, getD-zip}
+use Rattle.lists.proofs.Parts.{getD-before}
 use Rattle.matrix.specs.Cells.{cellFrom, rotated}
 
 pub length-rotated : (ω : ℕ) (words : List ℕ) → length (rotated ω words) ≡ 12

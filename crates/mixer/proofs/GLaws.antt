@@ -3,9 +3,8 @@ use mathlib.Core.Path.{_≡_, ap, _∙_}
 use Prim.Native.Nat.{ℕ, _-_, _^_, _≤_, _<_}
 use native.Mathlib.Omega.{arith}
 use lib.Bits.{bitXor, xor-lt}
-use Rattle.mixer.specs.Word.{turnRight}
+use Rattle.mixer.specs.Word.{turnRight, Addition, Undoes}
 use Rattle.mixer.specs.declared.Words.{Words}
-use Rattle.mixer.specs.Addition.{Addition, Undoes}
 use Rattle.mixer.specs.G.{halfG, G, unHalfG, unG}
 use Rattle.mixer.proofs.WordLaws.{xor-undo, turn-word, turn-undo}
 
@@ -37,21 +36,17 @@ module _ {A : Addition} (u : Undoes A) (m n : ℕ) (hm : m ≤ 64) (hn : n ≤ 6
   unfolding halfG
   halfG-words w h =
       let ha = u .sum-word (w .a) (w .b) (h .a) (h .b) in
-      let hd = turned-word m hm (w .d) (A .sum (w .a) (w .b)) (h .d) ha in
-      let hc = u .sum-word (w .c) (turnRight m (bitXor (w .d) (A .sum (w .a) (w .b)))) (h .c) hd in
+      let hd = turned-word m hm (w .d) _ (h .d) ha in
+      let hc = u .sum-word (w .c) _ (h .c) hd in
       record { a = ha; b = turned-word n hn (w .b) _ (h .b) hc; c = hc; d = hd }
 
   halfG-undo : (w : Words) → FourWords w → unHalfG (A .back) m n (halfG (A .sum) m n w) ≡ w
   unfolding halfG unHalfG
   halfG-undo w h =
-      let ha = u .sum-word (w .a) (w .b) (h .a) (h .b) in
-      let hd = turned-word m hm (w .d) (A .sum (w .a) (w .b)) (h .d) ha in
-      let hc = u .sum-word (w .c) (turnRight m (bitXor (w .d) (A .sum (w .a) (w .b)))) (h .c) hd in
-      let eb = turned-undo n hn (w .b) (A .sum (w .c) (turnRight m (bitXor (w .d) (A .sum (w .a) (w .b))))) (h .b) hc in
-      let ed = turned-undo m hm (w .d) (A .sum (w .a) (w .b)) (h .d) ha in
-      let ec = u .sum-back (w .c) (turnRight m (bitXor (w .d) (A .sum (w .a) (w .b)))) (h .c) hd in
-      let ea = ap (A .back (A .sum (w .a) (w .b))) eb ∙ u .sum-back (w .a) (w .b) (h .a) (h .b) in
-      λ i. record { a = ea i; b = eb i; c = ec i; d = ed i }
+      let out = halfG-words w h in
+      let eb = turned-undo n hn (w .b) _ (h .b) (out .c) in
+      let ea = ap (A .back _) eb ∙ u .sum-back (w .a) (w .b) (h .a) (h .b) in
+      λ i. record { a = ea i; b = eb i; c = u .sum-back (w .c) _ (h .c) (out .d) i; d = turned-undo m hm (w .d) _ (h .d) (out .a) i }
 
 module _ {A : Addition} (u : Undoes A) where
   pub G-words : (w : Words) → FourWords w → FourWords (G (A .sum) w)

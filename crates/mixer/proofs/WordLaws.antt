@@ -2,56 +2,41 @@
 -- Assumes nothing.
 use mathlib.Core.Path.{_≡_, refl, sym, ap, ap₂, _∙_, subst}
 use Prim.Native.Nat.{ℕ, zero, suc, _+_, _-_, _*_, _/_, _%_, _^_, _≤_, _<_}
-use native.Mathlib.Nat.{mod-lt, mul-mod-left, add-zero, add-comm}
+use native.Mathlib.Nat.{mod-lt, mul-mod-left, add-zero, add-comm, div-add-mod'}
 use native.Mathlib.Omega.{arith}
-use lib.Arith.{bin-ind, digits-lt, digits-div, digits-mod}
+use lib.Arith.{bin-ind, digits-lt}
 use lib.Pow.{pow-pos, pow-add, mod-pow-add, shl-shr, shr-lt, high, low, split}
-use lib.Bits.{bitXor, bitOr, differ, xor-step, xor-zero-r, xor-self, xor-lt, or-shifted-r}
-use Rattle.mixer.specs.Word.{turnRight, plainSum}
-use Rattle.mixer.specs.Addition.{Undoes, plain}
+use lib.Bits.{bitXor, bitOr, xor-shr, xor-mod, xor-zero-r, xor-self, or-shifted-r}
+use Rattle.mixer.specs.Word.{turnRight, Undoes, plain}
 
 -- ---- XOR
 
--- the digits of one place, each 0 or 1
-differ-assoc : (x y z : ℕ) → x < 2 → y < 2 → z < 2 → differ (differ x y) z ≡ differ x (differ y z)
-differ-assoc zero y z hx hy hz = refl
-differ-assoc (suc zero) zero z hx hy hz = refl
-differ-assoc (suc zero) (suc zero) zero hx hy hz = refl
-differ-assoc (suc zero) (suc zero) (suc zero) hx hy hz = refl
-differ-assoc (suc zero) (suc zero) (suc (suc z)) hx hy hz = absurd (omega arith)
-differ-assoc (suc zero) (suc (suc y)) z hx hy hz = absurd (omega arith)
-differ-assoc (suc (suc x)) y z hx hy hz = absurd (omega arith)
-
-digit : (n : ℕ) → n % 2 < 2
-digit n = omega arith
-
-differ-digit : (x y : ℕ) → x < 2 → y < 2 → differ x y < 2
-differ-digit zero y hx hy = hy
-differ-digit (suc zero) zero hx hy = hx
-differ-digit (suc zero) (suc zero) hx hy = omega arith
-differ-digit (suc zero) (suc (suc y)) hx hy = absurd (omega arith)
-differ-digit (suc (suc x)) y hx hy = absurd (omega arith)
-
--- the low digit and the rest of an XOR
-xor-low : (a b : ℕ) → bitXor a b % 2 ≡ differ (a % 2) (b % 2)
-xor-low a b =
-    ap (λ (x : ℕ). x % 2) (xor-step a b)
-    ∙ digits-mod (bitXor (a / 2) (b / 2)) (differ-digit (a % 2) (b % 2) (digit a) (digit b))
+-- the digits of one place
+digit-assoc : (x y z : ℕ) → x < 2 → y < 2 → z < 2 → bitXor (bitXor x y) z ≡ bitXor x (bitXor y z)
+digit-assoc zero y z hx hy hz = refl
+digit-assoc (suc zero) zero z hx hy hz = refl
+digit-assoc (suc zero) (suc zero) zero hx hy hz = refl
+digit-assoc (suc zero) (suc zero) (suc zero) hx hy hz = refl
+digit-assoc (suc zero) (suc zero) (suc (suc z)) hx hy hz = absurd (omega arith)
+digit-assoc (suc zero) (suc (suc y)) z hx hy hz = absurd (omega arith)
+digit-assoc (suc (suc x)) y z hx hy hz = absurd (omega arith)
 
 xor-rest : (a b : ℕ) → bitXor a b / 2 ≡ bitXor (a / 2) (b / 2)
-xor-rest a b =
-    ap (λ (x : ℕ). x / 2) (xor-step a b)
-    ∙ digits-div (bitXor (a / 2) (b / 2)) (differ-digit (a % 2) (b % 2) (digit a) (digit b))
+xor-rest a b = xor-shr a b 1
 
+xor-low : (a b : ℕ) → bitXor a b % 2 ≡ bitXor (a % 2) (b % 2)
+xor-low a b = xor-mod a b 1
+
+-- the last digit by itself, and the others by induction
 pub xor-assoc : (a b c : ℕ) → bitXor (bitXor a b) c ≡ bitXor a (bitXor b c)
 xor-assoc =
     bin-ind (λ (a : ℕ). (b c : ℕ) → bitXor (bitXor a b) c ≡ bitXor a (bitXor b c)) (λ b c. refl)
     (λ a ih b c.
-    xor-step (bitXor a b) c
-    ∙ ap₂ (λ (x y : ℕ). bitXor x (c / 2) * 2 + differ y (c % 2)) (xor-rest a b) (xor-low a b)
-    ∙ ap₂ (λ (x y : ℕ). x * 2 + y) (ih (b / 2) (c / 2)) (differ-assoc (a % 2) (b % 2) (c % 2) (digit a) (digit b) (digit c))
-    ∙ ap₂ (λ (x y : ℕ). bitXor (a / 2) x * 2 + differ (a % 2) y) (sym (xor-rest b c)) (sym (xor-low b c))
-    ∙ sym (xor-step a (bitXor b c)))
+    sym (div-add-mod' (bitXor (bitXor a b) c) 2)
+    ∙ ap₂ (λ (x y : ℕ). x * 2 + y)
+    (simp xor-rest (ih (b / 2) (c / 2)))
+    (simp xor-low (digit-assoc (a % 2) (b % 2) (c % 2) (omega arith) (omega arith) (omega arith)))
+    ∙ div-add-mod' (bitXor a (bitXor b c)) 2)
 
 pub xor-undo : (a b : ℕ) → bitXor (bitXor a b) b ≡ a
 xor-undo a b = xor-assoc a b b ∙ ap (bitXor a) (xor-self b) ∙ xor-zero-r a

@@ -1,27 +1,19 @@
 -- The table of quads: each quad has four distinct positions of the state. Assumes nothing.
-use mathlib.Core.Path.{_≡_, ap}
+use mathlib.Core.Path.{_≡_, sym, ap, _∙_}
 use mathlib.Core.Logic.{_≢_}
-use Prim.Native.Nat.{ℕ, zero, suc, _≤_, _<_}
+use Prim.Native.Nat.{ℕ, zero, suc, _+_, _≤_, _<_}
+use native.Mathlib.Numerals.{add-one}
 use native.Mathlib.Omega.{arith}
 use native.Mathlib.Nat.{not-suc-le-zero, le-of-suc-le-suc}
-use mathlib.Core.List.{List, [], _∷_}
+use mathlib.Core.List.{List, [], _∷_, foldl}
 use lib.ListN.{length, getD, drop, drop-of-length-le}
 use lib.Seq.{drop-cons}
 use Rattle.profile.specs.declared.Quad.{Quad}
 use Rattle.profile.specs.Profile.{quads}
-use Rattle.permutation.specs.Round.{applyG, applyAll}
 
 pub record Spread (q : Quad) : Type 0 where
-  pub in0 : q .0 < 16
-  pub in1 : q .1 < 16
-  pub in2 : q .2 < 16
-  pub in3 : q .3 < 16
-  pub d01 : q .0 ≢ q .1
-  pub d02 : q .0 ≢ q .2
-  pub d03 : q .0 ≢ q .3
-  pub d12 : q .1 ≢ q .2
-  pub d13 : q .1 ≢ q .3
-  pub d23 : q .2 ≢ q .3
+  pub inside : (q .0 < 16) × (q .1 < 16) × (q .2 < 16) × (q .3 < 16)
+  pub apart : (q .0 ≢ q .1) × (q .0 ≢ q .2) × (q .0 ≢ q .3) × (q .1 ≢ q .2) × (q .1 ≢ q .3) × (q .2 ≢ q .3)
 
 -- a property of every element of a list
 abbrev pub Each : (Quad → Type 0) → List Quad → Type 0
@@ -43,11 +35,9 @@ unfolding quads
 quad-spread table d n e h = rw e (each-at Spread quads d quads-spread n h)
 
 -- a loop over a table: one quad more, and the end
-module _ (sum : ℕ → ℕ → ℕ) (qs : List Quad) (n : ℕ) (s : List ℕ) where
-  pub applyAll-step : (d : Quad) → n < length qs → applyAll sum (drop n qs) s ≡ applyAll sum (drop (suc n) qs) (applyG sum (getD qs n d) s)
-  unfolding applyAll
-  applyAll-step d h = rw (drop-cons qs n d)
+module _ (f : List ℕ → Quad → List ℕ) (qs : List Quad) (n : ℕ) (s : List ℕ) where
+  pub fold-step : (r t : List ℕ) (d : Quad) → n < length qs → t ≡ f s (getD qs n d) → foldl f s (drop n qs) ≡ r → foldl f t (drop (n + 1) qs) ≡ r
+  fold-step r t d h e inv = rw (add-one, e) (ap (foldl f s) (sym (drop-cons qs n d h)) ∙ inv)
 
-  pub applyAll-end : length qs ≤ n → applyAll sum (drop n qs) s ≡ s
-  unfolding applyAll
-  applyAll-end h = ap (λ (rest : List Quad). applyAll sum rest s) (drop-of-length-le qs {i = n} h)
+  pub fold-end : length qs ≤ n → foldl f s (drop n qs) ≡ s
+  fold-end h = ap (foldl f s) (drop-of-length-le qs {i = n} h)

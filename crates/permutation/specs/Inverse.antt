@@ -1,7 +1,7 @@
 -- The inverses of the round and of n rounds.
 use Prim.Native.Nat.{ℕ, zero, suc}
-use mathlib.Core.List.{List, [], _∷_}
-pub use Rattle.mixer.specs.Addition.{Addition, Undoes, plainBack, plain}
+use mathlib.Core.List.{List, foldr}
+pub use Rattle.mixer.specs.Word.{Addition, Undoes, plain}
 use Rattle.mixer.specs.G.{unG}
 use Rattle.profile.specs.declared.Quad.{Quad}
 use Rattle.profile.specs.Profile.{quads}
@@ -11,12 +11,8 @@ unfoldable pub unapplyG : (ℕ → ℕ → ℕ) → Quad → List ℕ → List �
 unapplyG back q s = putWords q (unG back (wordsAt q s)) s
 
 -- the last quad first
-unfoldable pub unapplyAll : (ℕ → ℕ → ℕ) → List Quad → List ℕ → List ℕ
-unapplyAll back [] s = s
-unapplyAll back (q ∷ qs) s = unapplyG back q (unapplyAll back qs s)
-
 unfoldable pub unround : (ℕ → ℕ → ℕ) → List ℕ → List ℕ
-unround back s = unapplyAll back quads s
+unround back s = foldr (unapplyG back) s quads
 
 unfoldable pub unrounds : (ℕ → ℕ → ℕ) → ℕ → List ℕ → List ℕ
 unrounds back zero s = s

@@ -1,6 +1,6 @@
 -- The round and n rounds.
 use Prim.Native.Nat.{ℕ, zero, suc}
-use mathlib.Core.List.{List, [], _∷_}
+use mathlib.Core.List.{List, foldl}
 use lib.ListN.{getD, set}
 unfoldable pub use Rattle.mixer.specs.G.{G}
 use Rattle.mixer.specs.declared.Words.{Words}
@@ -19,13 +19,9 @@ putWords q w s = set (set (set (set s (q .0) (w .a)) (q .1) (w .b)) (q .2) (w .c
 unfoldable pub applyG : (ℕ → ℕ → ℕ) → Quad → List ℕ → List ℕ
 applyG sum q s = putWords q (G sum (wordsAt q s)) s
 
--- G on each quad of a list in turn
-unfoldable pub applyAll : (ℕ → ℕ → ℕ) → List Quad → List ℕ → List ℕ
-applyAll sum [] s = s
-applyAll sum (q ∷ qs) s = applyAll sum qs (applyG sum q s)
-
+-- G on each quad in turn
 unfoldable pub round : (ℕ → ℕ → ℕ) → List ℕ → List ℕ
-round sum s = applyAll sum quads s
+round sum s = foldl (λ t q. applyG sum q t) s quads
 
 unfoldable pub rounds : (ℕ → ℕ → ℕ) → ℕ → List ℕ → List ℕ
 rounds sum zero s = s

@@ -1,1 +1,1 @@
-pub use Rattle.rate.proofs.Sums.{sum-words}
+pub use Rattle.cell_sums.proofs.Sums.{sum-words}

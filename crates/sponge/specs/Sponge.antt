@@ -4,7 +4,8 @@ use mathlib.Core.List.{List}
 use Rattle.permutation.specs.Round.{rounds}
 use Rattle.permutation.specs.Inverse.{unrounds}
 use Rattle.lists.specs.Zip.{xorInto}
-unfoldable pub use Rattle.rate.specs.Rate.{rand, cellSum}
+unfoldable pub use Rattle.rate.specs.Rate.{rand}
+unfoldable pub use Rattle.cell_sums.specs.CellSum.{cellSum}
 
 -- words XORed into the first words of the state, then a call of n rounds
 unfoldable pub absorb : (ℕ → ℕ → ℕ) → ℕ → List ℕ → List ℕ → List ℕ

@@ -1,15 +1,15 @@
 // Absorbing and duplexing, and what they rest on: calls of the permutation and the output.
 pub use calls::full_call;
 pub use calls::reduced_call;
+use cell_sums::xor_sum3;
+use cell_sums::xor_sum4;
 pub use rate::output;
-use rate::xor_sum3;
-use rate::xor_sum4;
 use rate::xor_words;
 ghost use mathlib.Core.Path.{_≡_};
 ghost use lib.ListN.{length};
 ghost use Rattle.permutation.specs.Word.{plainSum};
 ghost use Rattle.profile.specs.Profile.{fullRounds, reducedRounds, cellWords};
-ghost use Rattle.rate.specs.Rate.{cellSum};
+ghost use Rattle.cell_sums.specs.CellSum.{cellSum};
 ghost use Rattle.sponge.specs.Sponge.{absorb};
 
 // A cell, with a full call.

@@ -7,16 +7,11 @@ use Rattle.little_endian.proofs.ByteLaws.{from, from-none, from-small, 
 use Rattle.little_endian.proofs.load_word.Statement.{statement}
 use Rattle.little_endian.proofs.load_word.Tie as tie
 
-abbrev Inv-loop : tie.InvT-loop
-Inv-loop bytes at v₀ i₀ v i = (i ≤ 8) × (v ≡ from bytes at i)
-
-abbrev μ-loop : tie.MeasureT-loop
-μ-loop bytes at v₀ i₀ v i = i
-
 pub load-word-spec : {M : Type 1} → statement M
 load-word-spec =
     tie.close
-    (tie.spec Inv-loop μ-loop (λ c. (omega arith, sym (from-none _ (c .before .args .at)))) (omega arith)
+    (tie.spec (λ bytes at v₀ i₀ v i. (i ≤ 8) × (v ≡ from bytes at i)) (λ bytes at v₀ i₀ v i. i)
+    (λ c. (omega arith, sym (from-none _ (c .before .args .at)))) (omega arith)
     (λ c.
     let start = c .before .before .before in
     omega

@@ -11,19 +11,16 @@ use Rattle.little_endian.proofs.ByteLaws.{length-words, getD-words}
 use Rattle.little_endian.proofs.load_words.Statement.{statement}
 use Rattle.little_endian.proofs.load_words.Tie as tie
 
-abbrev Inv-loop : tie.InvT-loop
-Inv-loop bytes words₀ i₀ words i = Placed (λ (x y : ℕ). y) 0 words₀ (leWords (length words₀) bytes) words i (length words₀)
-
-abbrev μ-loop : tie.MeasureT-loop
-μ-loop bytes words₀ i₀ words i = length words₀ - i
-
 pub load-words-spec : {M : Type 1} → statement M
 unfolding zipAt
 load-words-spec =
     tie.close
-    (tie.spec Inv-loop μ-loop (λ c. placed-none (λ (x y : ℕ). y)) (omega arith) (omega arith) (omega arith) (omega arith) (omega arith) (omega arith)
+    (tie.spec
+    (λ bytes words₀ i₀ words i. Placed (λ (x y : ℕ). y) 0 words₀ (leWords (length words₀) bytes) words i (length words₀))
+    (λ bytes words₀ i₀ words i. length words₀ - i) (λ c. placed-none (λ (x y : ℕ). y) (length-words _ _)) (omega arith) (omega arith) (omega arith)
+    (omega arith) (omega arith) (omega arith)
     (λ c.
-    placed-again (λ (x y : ℕ). y) (c .before .before .loop .inv) (length-words _ _) (omega arith) (omega arith)
+    placed-again (λ (x y : ℕ). y) (c .before .before .loop .inv) (omega arith) (omega arith)
     (c .load-word .ensures ∙ sym (getD-words _ _ _ (omega arith))))
     (omega arith)
-    (λ c. placed-end (λ (x y : ℕ). y) (c .before .loop .inv) (length-words _ _) (omega arith) ∙ put-all _ _ (length-words _ _)))
+    (λ c. placed-end (λ (x y : ℕ). y) (c .before .loop .inv) (omega arith) ∙ put-all _ _ (length-words _ _)))

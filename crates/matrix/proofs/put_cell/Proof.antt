@@ -6,15 +6,11 @@ use Rattle.lists.proofs.Placed.{Placed, placed-none, placed-again, placed-end}
 use Rattle.matrix.proofs.put_cell.Statement.{statement}
 use Rattle.matrix.proofs.put_cell.Tie as tie
 
-abbrev Inv-loop : tie.InvT-loop
-Inv-loop m₀ a words j₀ m j = Placed (λ (x y : ℕ). y) a m₀ words m j 12
-
-abbrev μ-loop : tie.MeasureT-loop
-μ-loop m₀ a words j₀ m j = 12 - j
-
 pub put-cell-spec : {M : Type 1} → statement M
 put-cell-spec =
+    let put : ℕ → ℕ → ℕ = λ x y. y in
     tie.close
-    (tie.spec Inv-loop μ-loop (λ c. placed-none (λ (x y : ℕ). y)) (omega arith) (omega arith) (omega arith) (omega arith) (omega arith) (omega arith) (omega arith)
-    (λ c. placed-again (λ (x y : ℕ). y) (c .before .before .loop .inv) (search) (omega arith) (omega arith) refl)
-    (λ c. c .before .loop .inv .long) (λ c. placed-end (λ (x y : ℕ). y) (c .before .loop .inv) (search) (omega arith)))
+    (tie.spec (λ m₀ a words j₀ m j. Placed put a m₀ words m j 12) (λ m₀ a words j₀ m j. 12 - j) (λ c. placed-none put (search))
+    (omega arith) (omega arith) (omega arith) (omega arith) (omega arith) (omega arith) (omega arith)
+    (λ c. placed-again put (c .before .before .loop .inv) (omega arith) (omega arith) refl) (λ c. c .before .loop .inv .long)
+    (λ c. placed-end put (c .before .loop .inv) (omega arith)))

@@ -11,15 +11,13 @@ use Rattle.matrix.proofs.CellLaws.{length-cell, xored-word}
 use Rattle.matrix.proofs.put_xored.Statement.{statement}
 use Rattle.matrix.proofs.put_xored.Tie as tie
 
-abbrev Inv-loop : tie.InvT-loop
-Inv-loop m₀ a b words j₀ m j = Placed (λ (x y : ℕ). y) b m₀ (xorInto (cellFrom a m₀) words) m j 12
-
-abbrev μ-loop : tie.MeasureT-loop
-μ-loop m₀ a b words j₀ m j = 12 - j
-
 pub put-xored-spec : {M : Type 1} → statement M
 put-xored-spec =
     tie.close
-    (tie.spec Inv-loop μ-loop (λ c. placed-none (λ (x y : ℕ). y)) (omega arith) (omega arith) (omega arith) (omega arith) (omega arith) (omega arith) (omega arith) (omega arith) (omega arith) (omega arith)
-    (λ c. placed-again (λ (x y : ℕ). y) (c .before .before .before .loop .inv) (length-zip bitXor _ _ ∙ length-cell _ _ (omega arith)) (omega arith) (omega arith) (xored-word _ _ _ _ _ _ (omega arith) (omega arith) (search) (c .before .before .before .loop .inv .so-far) _ (omega arith)))
-    (λ c. c .before .loop .inv .long) (λ c. placed-end (λ (x y : ℕ). y) (c .before .loop .inv) (length-zip bitXor _ _ ∙ length-cell _ _ (omega arith)) (omega arith)))
+    (tie.spec (λ m₀ a b words j₀ m j. Placed (λ (x y : ℕ). y) b m₀ (xorInto (cellFrom a m₀) words) m j 12)
+    (λ m₀ a b words j₀ m j. 12 - j) (λ c. placed-none (λ (x y : ℕ). y) (length-zip bitXor _ _ ∙ length-cell _ _ (omega arith)))
+    (omega arith) (omega arith) (omega arith) (omega arith) (omega arith) (omega arith) (omega arith) (omega arith)
+    (omega arith) (omega arith)
+    (λ c. placed-again (λ (x y : ℕ). y) (c .before .before .before .loop .inv) (omega arith) (omega arith)
+    (xored-word _ _ _ _ _ _ (omega arith) (omega arith) (search) (c .before .before .before .loop .inv .so-far) _ (omega arith)))
+    (λ c. c .before .loop .inv .long) (λ c. placed-end (λ (x y : ℕ). y) (c .before .loop .inv) (omega arith)))

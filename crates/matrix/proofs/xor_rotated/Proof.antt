@@ -9,15 +9,11 @@ use Rattle.matrix.proofs.CellLaws.{length-rotated, getD-rotated}
 use Rattle.matrix.proofs.xor_rotated.Statement.{statement}
 use Rattle.matrix.proofs.xor_rotated.Tie as tie
 
-abbrev Inv-loop : tie.InvT-loop
-Inv-loop m₀ a words j₀ m j = Placed bitXor a m₀ (rotated 2 words) m j 12
-
-abbrev μ-loop : tie.MeasureT-loop
-μ-loop m₀ a words j₀ m j = 12 - j
-
 pub xor-rotated-spec : {M : Type 1} → statement M
 xor-rotated-spec =
     tie.close
-    (tie.spec Inv-loop μ-loop (λ c. placed-none bitXor) (omega arith) (omega arith) (omega arith) (omega arith) (omega arith) (omega arith) (omega arith) (omega arith) (omega arith) (omega arith) (omega arith)
-    (λ c. placed-again bitXor (c .before .before .before .loop .inv) (length-rotated 2 _) (omega arith) (omega arith) (sym (getD-rotated 2 _ _ (omega arith))))
-    (λ c. c .before .loop .inv .long) (λ c. placed-end bitXor (c .before .loop .inv) (length-rotated 2 _) (omega arith)))
+    (tie.spec (λ m₀ a words j₀ m j. Placed bitXor a m₀ (rotated 2 words) m j 12) (λ m₀ a words j₀ m j. 12 - j)
+    (λ c. placed-none bitXor (length-rotated 2 _)) (omega arith) (omega arith) (omega arith) (omega arith) (omega arith)
+    (omega arith) (omega arith) (omega arith) (omega arith) (omega arith) (omega arith)
+    (λ c. placed-again bitXor (c .before .before .before .loop .inv) (omega arith) (omega arith) (sym (getD-rotated 2 _ _ (omega arith))))
+    (λ c. c .before .loop .inv .long) (λ c. placed-end bitXor (c .before .loop .inv) (omega arith)))

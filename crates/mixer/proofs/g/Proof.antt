@@ -9,4 +9,5 @@ use Rattle.mixer.proofs.g.Tie as tie
 pub g-spec : {M : Type 1} → statement M
 unfolding G
 g-spec =
-    tie.close (tie.spec (omega arith) (omega arith) (λ c. c .half-g2 .ensures ∙ ap (halfG plainSum 16 63) (c .before .half-g .ensures)))
+    tie.close
+    (tie.spec (omega arith) (omega arith) (λ c. c .half-g2 .ensures ∙ ap (halfG plainSum 16 63) (c .before .half-g .ensures)))

@@ -14,10 +14,14 @@ Inv-loop s₀ n k₀ s k = (k ≤ n) × (s ≡ rounds plainSum k s₀)
 abbrev μ-loop : tie.MeasureT-loop
 μ-loop s₀ n k₀ s k = n - k
 
+-- by itself, so that a refusal elsewhere does not hide its own
+loop-again : tie.Need-loop-again Inv-loop μ-loop
+unfolding rounds
+loop-again c = (omega arith, rw add-one (cc))
+
 pub rounds-spec : {M : Type 1} → statement M
 unfolding rounds
 rounds-spec =
     tie.close
-    (tie.spec Inv-loop μ-loop (λ c. (omega arith, refl)) (omega arith) (omega arith) (omega arith)
-    (λ c. (omega arith, rw add-one (cc)))
+    (tie.spec Inv-loop μ-loop (λ c. (omega arith, refl)) (omega arith) (omega arith) (omega arith) loop-again
     (λ c. let at-end : c .before .loop .k ≡ c .before .before .args .n = omega arith in cc))

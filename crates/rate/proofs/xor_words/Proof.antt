@@ -9,16 +9,12 @@ use Rattle.lists.proofs.Placed.{Placed, placed-none, placed-again, placed-end}
 use Rattle.rate.proofs.xor_words.Statement.{statement}
 use Rattle.rate.proofs.xor_words.Tie as tie
 
-abbrev Inv-loop : tie.InvT-loop
-Inv-loop s₀ words i₀ s i = Placed bitXor 0 s₀ words s i (length words)
-
-abbrev μ-loop : tie.MeasureT-loop
-μ-loop s₀ words i₀ s i = length words - i
-
 pub xor-words-spec : {M : Type 1} → statement M
 unfolding zipAt
 xor-words-spec =
     tie.close
-    (tie.spec Inv-loop μ-loop (λ c. placed-none bitXor) (omega arith) (omega arith) (omega arith) (omega arith) (omega arith) (omega arith) (omega arith) (omega arith)
-    (λ c. placed-again bitXor (c .before .before .before .loop .inv) refl (omega arith) (omega arith) refl)
-    (λ c. placed-end bitXor (c .before .loop .inv) refl (omega arith)))
+    (tie.spec (λ s₀ words i₀ s i. Placed bitXor 0 s₀ words s i (length words)) (λ s₀ words i₀ s i. length words - i)
+    (λ c. placed-none bitXor refl) (omega arith) (omega arith) (omega arith) (omega arith) (omega arith) (omega arith)
+    (omega arith) (omega arith)
+    (λ c. placed-again bitXor (c .before .before .before .loop .inv) (omega arith) (omega arith) refl)
+    (λ c. placed-end bitXor (c .before .loop .inv) (omega arith)))

@@ -7,7 +7,7 @@ use lib.ListN.{length, getD}
 use Rattle.lists.proofs.Words.{AllWords}
 use Rattle.lists.proofs.ZipLaws.{length-zip, getD-zip, zip-words}
 use Rattle.mixer.specs.Word.{plainSum}
-use Rattle.rate.specs.Rate.{cellSum}
+use Rattle.cell_sums.specs.CellSum.{cellSum}
 
 module _ (n : ℕ) (a b : List ℕ) (la : length a ≡ n) where
   pub length-sum : length (cellSum a b) ≡ n
