@@ -13,5 +13,5 @@ abbrev pub lengthsOf : ℕ → ℕ → ℕ → Lengths
 lengthsOf key password salt = record { key = key; password = password; salt = salt }
 
 -- the costs that a returned number and three stored counts are
-unfoldable pub stored : ℕ → List ℕ → Costs
+abbrev pub stored : ℕ → List ℕ → Costs
 stored number counts = record { refusal = number; full = getD counts 0 0; reduced = getD counts 1 0; rounds = getD counts 2 0 }

@@ -1,7 +1,7 @@
 // The bytes of the key, one after another out of a state.
 use little_endian::byte_of;
 use sponge::duplex::full_call;
-use sponge::profile::Profile;
+use profile::Profile;
 ghost use mathlib.Core.Path.{_≡_};
 ghost use Prim.Native.Nat.{_%_, _<_};
 ghost use lib.ListN.{getD};
