@@ -3,7 +3,8 @@
  *
  * Answer        Every call returns LYRA2_ACCEPTED or the number of a refusal. Of several that apply it is the lowest.
  * Memory        The caller lends all of it. There is no heap and no global state, nothing to set up, nothing to free.
- * Written       Accepted: what the declaration says, and nothing else. Refused: nothing, and nothing lent is read.
+ * Written       Accepted: what the declaration says, and nothing else. Refused: the answer's fields, which are `same`,
+ *               the counts, the state and `row1`, become 0; nothing else that is lent is read or written.
  * Before        What a call writes may hold anything beforehand. No answer depends on it.
  * Pointers      Never null, not even with a length of 0, and good for as many elements as the length says.
  *               Words and `row1` lie at addresses that 8 divides, `same` at one that 4 divides, bytes anywhere.
@@ -124,7 +125,7 @@ LYRA2_ANSWER uint32_t lyra2_derive_recorded(
 
 /*
  * Tells whether the stored bytes are the key of their length: *same becomes 1 or 0. Writes the used matrix too, as
- * lyra2_derive does, and the counts. After a refusal *same is what it was, so set it to 0 before.
+ * lyra2_derive does, and the counts. After a refusal *same is 0, a no.
  */
 LYRA2_ANSWER uint32_t lyra2_check(
     const uint8_t *password, size_t password_len,

@@ -8,9 +8,11 @@ cd "$(dirname "$0")/.."
 # ---- the archive: five functions, nothing needed from elsewhere, no section to write in
 names=$(nm -g --defined-only "$library" 2>"$work/log" | sed -n 's/^[0-9a-f]* //p' | sort | tr '\n' ' ')
 same 'exported names' 'T lyra2_check T lyra2_cost T lyra2_derive T lyra2_derive_recorded T lyra2_walk ' "$names"
-same 'names from elsewhere' '' "$(nm -u "$library" | sed -n 's/^ *[Uwv] //p')"
-same 'sections to write in' '' "$(readelf -SW "$library" | grep -E ' (WA|WAT|AW)[A-Z]* ' || true)"
-readelf -SW "$library" | grep -q ' AX ' || { echo 'readelf shows no code'; exit 1; }
+nm -u "$library" >"$work/undefined" 2>"$work/log"
+same 'names from elsewhere' '' "$(sed -n 's/^ *[Uwv] //p' "$work/undefined")"
+readelf -SW "$library" >"$work/sections"
+grep -q ' AX ' "$work/sections" || { echo 'readelf shows no code'; exit 1; }
+same 'sections to write in' '' "$(grep -E ' (WA|WAT|AW)[A-Z]* ' "$work/sections" || true)"
 
 # ---- the programs
 compile limits refusals stack vectors fields calls lent
@@ -75,16 +77,23 @@ for spoilt in derive_recorded:{key,state,full,reduced,rounds,matrix_sum,record_s
 done
 
 # ---- faulty libraries
-is_found() { # FAULT
+build_faulty() { # FAULT PROGRAM
     compile_fault "$1"
+    cc "$wrapped" "$work"/{$2,calls,lent,faulty}.o "$library" -o "$work/faulty" || exit 1
+}
+is_found() { # FAULT
+    local program
     for program in limits refusals; do
-        cc "$wrapped" "$work"/{$program,calls,lent,faulty}.o "$library" -o "$work/faulty" || exit 1
+        build_faulty "$1" $program
         "$work/faulty" >"$work/log" 2>&1 || { grep -q "^FAILED: " "$work/log"; return; }
     done
     return 1
 }
-! is_found 0 || { echo 'the wrapped library without a fault fails'; exit 1; }
-for fault in {1..19}; do
+for program in limits refusals; do
+    build_faulty 0 $program
+    "$work/faulty" >"$work/log" 2>&1 || { cat "$work/log"; echo 'the wrapped library without a fault fails'; exit 1; }
+done
+for fault in {1..24}; do
     is_found "$fault" || { echo "fault $fault is not found"; exit 1; }
 done
 echo "C interface: $(sed 's/^vectors: //' "$work/ran"); $headers wrong headers, $wrong wrong lines and $fault faulty libraries were found"

@@ -1,6 +1,7 @@
 #!/usr/bin/env bash
 # The C interface under valgrind's memcheck: no byte outside of what is lent, nothing that depends on what lent memory
-# held before, no touch by a refused call, no branch on the bytes of a stored key; and faulty libraries, which it finds.
+# held before, no touch by a refused call of more than its answer, no branch on the bytes of a stored key; and faulty
+# libraries, which it finds.
 set -eu
 cd "$(dirname "$0")/.."
 . tests/c/build.sh
@@ -15,7 +16,9 @@ compile memcheck refusals vectors fields calls lent
 cc "$work"/{memcheck,calls,lent}.o "$library" -o "$work/memcheck"
 cc "$work"/{refusals,calls,lent}.o "$library" -o "$work/refusals"
 cc "$work"/{vectors,fields,calls,lent}.o "$library" -o "$work/vectors"
-memcheck "$work/memcheck" | tee "$work/ran"
+# A pipe would hide the status.
+memcheck "$work/memcheck" >"$work/ran"
+cat "$work/ran"
 memcheck "$work/refusals"
 cc "${flags[@]}" examples/derive_and_check.c "$library" -o "$work/example"
 same 'the example' "$(cat examples/derive_and_check.out)" "$(printf 'correct horse' | memcheck "$work/example" 'salt of 16 bytes' 1 256 64 32)"
@@ -37,10 +40,14 @@ while read -r fault words; do
     grep -q "$words" "$work/log" || { cat "$work/log"; echo "fault $fault is not found"; exit 1; }
     found=$((found + 1))
 done <<'END'
-20 Invalid read of size 1
-21 Invalid read of size 1
-22 key: depends on what the memory held
-23 Invalid write of size 8
-24 Conditional jump or move depends on uninitialised value
+6 counts: depends on what the memory held
+11 state: depends on what the memory held
+14 same: depends on what the memory held
+18 row1: depends on what the memory held
+40 Invalid read of size 1
+41 Invalid read of size 1
+42 key: depends on what the memory held
+43 Invalid write of size 8
+44 Conditional jump or move depends on uninitialised value
 END
 echo "valgrind: $(sed 's/^memcheck: //' "$work/ran") without an error, $found faulty libraries were found"

@@ -60,22 +60,30 @@ static uint32_t ask(struct call *call)
     }
 }
 
-/* Nothing may have changed but what the operation writes when it is accepted. */
+/* A field of the answer: an operation that has it writes it in every case, and with zeros where the call is refused. */
+static void require_answer_field(const struct lent *field, bool has, uint32_t answer, const char *name)
+{
+    require_kept(field, has ? field->bytes : 0, name);
+    if (has && answer != LYRA2_ACCEPTED)
+        require_zeros(field, name);
+}
+
+/* Nothing may have changed but the answer's fields and what the operation writes when it is accepted. */
 static void require_all_kept(const struct call *call)
 {
     bool accepted = call->answer == LYRA2_ACCEPTED;
-    bool recorded = accepted && call->operation == RECORDED;
-    bool derived = recorded || (accepted && call->operation == PLAIN);
-    bool walked = derived || (accepted && call->operation == CHECK);
-    bool checked = walked && !derived;
+    bool records = call->operation == RECORDED;
+    bool derives = records || call->operation == PLAIN;
+    bool checks = call->operation == CHECK;
+    bool walks = derives || checks;
     require_kept(&call->password, 0, "password");
     require_kept(&call->salt, 0, "salt");
-    require_kept(&call->key, derived ? call->sizes.key : 0, "key");
-    require_kept(&call->matrix, walked ? 8 * used_matrix(&call->sizes) : 0, "matrix");
-    require_kept(&call->record, recorded ? 8 * used_record(&call->sizes) : 0, "record");
-    require_kept(&call->state, recorded ? 8 * LYRA2_STATE_WORDS : 0, "state");
-    require_kept(&call->counts, accepted ? 8 * LYRA2_COUNTS : 0, "counts");
-    require_kept(&call->same, checked ? sizeof(uint32_t) : 0, "same");
+    require_kept(&call->key, accepted && derives ? call->sizes.key : 0, "key");
+    require_kept(&call->matrix, accepted && walks ? 8 * used_matrix(&call->sizes) : 0, "matrix");
+    require_kept(&call->record, accepted && records ? 8 * used_record(&call->sizes) : 0, "record");
+    require_answer_field(&call->state, records, call->answer, "state");
+    require_answer_field(&call->counts, true, call->answer, "counts");
+    require_answer_field(&call->same, checks, call->answer, "same");
 }
 
 void make_call(struct call *call, enum operation operation, struct sizes sizes, struct contents contents)
@@ -101,9 +109,8 @@ uint32_t ask_walk(size_t rows, size_t row0, size_t *row1)
     struct lent place;
     lend(&place, sizeof(size_t), 8, NULL);
     uint32_t answer = lyra2_walk(rows, row0, lent_part(&place));
-    bool accepted = answer == LYRA2_ACCEPTED;
-    require_kept(&place, accepted ? sizeof(size_t) : 0, "row1");
-    *row1 = accepted ? *(size_t *)lent_part(&place) : SIZE_MAX;
+    require_answer_field(&place, true, answer, "row1");
+    *row1 = *(size_t *)lent_part(&place);
     take_back(&place);
     calls_made++;
     return answer;

@@ -26,7 +26,8 @@ struct call {
 
 extern const char *const operation_names[OPERATIONS];
 
-/* Lends what the operation takes, calls it, and requires that nothing changed but what the answer allows. */
+/* Lends what the operation takes, calls it, and requires that nothing changed but what the answer allows, and that the
+ * state, the counts and `same` of a refused call are zero. */
 void make_call(struct call *call, enum operation operation, struct sizes sizes, struct contents contents);
 
 /* Gives back what was lent. */
@@ -39,7 +40,7 @@ size_t used_record(const struct sizes *sizes);
 /* The sizes with a matrix and a record that fit exactly. */
 struct sizes fitting(struct sizes sizes);
 
-/* The walk question; `row1` gets the answer, or SIZE_MAX where it is refused. */
+/* The walk question; `row1` gets the answer, or 0 where it is refused. */
 uint32_t ask_walk(size_t rows, size_t row0, size_t *row1);
 
 /* How many calls were made. */

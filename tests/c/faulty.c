@@ -1,6 +1,6 @@
 /*
  * A library with one fault, to see that the tests of the C interface find it: linked with --wrap, it stands between a
- * test and the library. FAULT chooses the fault; 0 is none, and those from 20 on are seen by memcheck alone.
+ * test and the library. FAULT chooses the fault; 0 is none, and those from 40 on are seen by memcheck alone.
  */
 #include "lyra2.h"
 
@@ -42,8 +42,9 @@ static bool has(int fault, bool condition)
 uint32_t __wrap_lyra2_derive(DERIVE_PARAMETERS, uint64_t *counts)
 {
     volatile uint8_t seen = 0;
-    uint64_t before = has(22, columns > 0 && matrix_words >= 36) ? matrix[35] : 0;
-    if (has(20, key_len == 0))
+    uint64_t rounds = counts[LYRA2_ROUNDS];
+    uint64_t before = has(42, columns > 0 && matrix_words >= 36) ? matrix[35] : 0;
+    if (has(40, key_len == 0))
         seen = salt[0];
     if (has(1, password_len == LYRA2_PASSWORD_MAX + 1))
         password_len--;
@@ -58,16 +59,16 @@ uint32_t __wrap_lyra2_derive(DERIVE_PARAMETERS, uint64_t *counts)
     if (has(5, accepted))
         matrix[LYRA2_MATRIX_WORDS(rows, columns)] ^= 1;
     if (has(6, !accepted))
-        memset(counts, 0, 8 * LYRA2_COUNTS);
+        counts[LYRA2_ROUNDS] = rounds;
     if (has(7, accepted))
         memset((uint8_t *)password, 0, password_len);
     if (has(8, !accepted && key_len > 0))
         key[0] ^= 1;
     if (has(9, accepted))
         matrix[LYRA2_MATRIX_WORDS(rows, columns) - 1] ^= 1;
-    if (has(21, accepted))
+    if (has(41, accepted))
         seen = password[password_len];
-    if (has(22, accepted))
+    if (has(42, accepted))
         key[0] ^= (uint8_t)before;
     (void)seen;
     return answer;
@@ -76,17 +77,22 @@ uint32_t __wrap_lyra2_derive(DERIVE_PARAMETERS, uint64_t *counts)
 uint32_t __wrap_lyra2_derive_recorded(DERIVE_PARAMETERS, uint64_t *record, size_t record_words, uint64_t *state,
                                       uint64_t *counts)
 {
+    uint64_t last_word = state[LYRA2_STATE_WORDS - 1], full = counts[LYRA2_FULL_CALLS];
     uint32_t answer = __real_lyra2_derive_recorded(DERIVE_VALUES, record, record_words, state, counts);
     bool accepted = answer == LYRA2_ACCEPTED;
     if (has(10, accepted))
         record[LYRA2_RECORD_WORDS(time, rows, columns)] ^= 1;
     if (has(11, !accepted))
-        state[LYRA2_STATE_WORDS - 1] = 0;
+        state[LYRA2_STATE_WORDS - 1] = last_word;
     if (has(12, answer == LYRA2_REFUSED_RECORD))
         matrix[0] ^= 1;
     if (has(13, accepted))
         state[LYRA2_STATE_WORDS] = 0;
-    if (has(23, !accepted && record_words > 0))
+    if (has(20, !accepted))
+        counts[LYRA2_FULL_CALLS] = full;
+    if (has(21, answer == LYRA2_REFUSED_MATRIX && record_words > 0))
+        record[0] = 0;
+    if (has(43, !accepted && record_words > 0))
         *(volatile uint64_t *)record = *(volatile uint64_t *)record;
     return answer;
 }
@@ -103,15 +109,21 @@ static uint32_t compare_early(const uint8_t *stored, const uint8_t *key, size_t 
 uint32_t __wrap_lyra2_check(CHECK_PARAMETERS)
 {
     uint8_t key[LYRA2_KEY_MAX];
+    uint32_t flag = *same;
+    uint64_t reduced = counts[LYRA2_REDUCED_CALLS];
     uint32_t answer = __real_lyra2_check(CHECK_VALUES);
     bool accepted = answer == LYRA2_ACCEPTED;
     if (has(14, !accepted))
-        *same = 0;
+        *same = flag;
+    if (has(22, !accepted))
+        counts[LYRA2_REDUCED_CALLS] = reduced;
+    if (has(23, !accepted))
+        *same = 1;
     if (has(15, accepted))
         *same = 0;
     if (has(16, accepted))
         *same = 1;
-    if (FAULT == 24 && accepted
+    if (FAULT == 44 && accepted
         && __real_lyra2_derive(password, password_len, salt, salt_len, time, rows, columns, key, stored_len, matrix,
                                matrix_words, counts) == LYRA2_ACCEPTED)
         *same = compare_early(stored, key, stored_len);
@@ -121,17 +133,21 @@ uint32_t __wrap_lyra2_check(CHECK_PARAMETERS)
 uint32_t __wrap_lyra2_cost(size_t key_len, size_t password_len, size_t salt_len, size_t time, size_t rows,
                            size_t columns, uint64_t *counts)
 {
+    uint64_t rounds = counts[LYRA2_ROUNDS];
     uint32_t answer = __real_lyra2_cost(key_len, password_len, salt_len, time, rows, columns, counts);
     if (has(17, answer == LYRA2_ACCEPTED))
         counts[LYRA2_FULL_CALLS]++;
+    if (has(24, answer != LYRA2_ACCEPTED))
+        counts[LYRA2_ROUNDS] = rounds;
     return answer;
 }
 
 uint32_t __wrap_lyra2_walk(size_t rows, size_t row0, size_t *row1)
 {
+    size_t row = *row1;
     uint32_t answer = __real_lyra2_walk(rows, row0, row1);
     if (has(18, answer != LYRA2_ACCEPTED))
-        *row1 = 0;
+        *row1 = row;
     if (has(19, row0 == rows && rows == LYRA2_ROWS_MAX))
         return LYRA2_ACCEPTED;
     return answer;

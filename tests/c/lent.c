@@ -90,6 +90,14 @@ void require_kept(const struct lent *lent, size_t used, const char *name)
         fail("%s: its contents were changed", name);
 }
 
+void require_zeros(const struct lent *lent, const char *name)
+{
+    const uint8_t *part = lent_part(lent);
+    for (size_t i = 0; i < lent->bytes; i++)
+        if (part[i] != 0)
+            fail("%s: byte %zu is %02x, where 0 is due", name, i, part[i]);
+}
+
 void take_back(struct lent *lent)
 {
     free(lent->whole);

@@ -23,6 +23,9 @@ void *lent_part(const struct lent *lent);
  * with contents is for reading, and has to be as it was altogether. */
 void require_kept(const struct lent *lent, size_t used, const char *name);
 
+/* Ends the program unless every byte of the lent part is 0. */
+void require_zeros(const struct lent *lent, const char *name);
+
 void take_back(struct lent *lent);
 
 /* Allocates zeroed memory or ends the program. */

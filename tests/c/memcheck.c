@@ -140,8 +140,25 @@ static void require_check(const struct sizes *n, int wrong)
     take_all_back(&m);
 }
 
-/* A refused call may not even read: everything lent is marked as out of reach. */
-static void require_untouched(struct sizes n, uint32_t due)
+/* A field of a refused call's answer: zeros, whatever it held. It is marked as never written for the next call. */
+static void require_zero_field(const char *name, void *field, size_t bytes)
+{
+    require_written(name, field, bytes, bytes);
+    for (size_t i = 0; i < bytes; i++)
+        if (((uint8_t *)field)[i] != 0)
+            fail("%s: not zero after a refusal", name);
+    (void)VALGRIND_MAKE_MEM_UNDEFINED(field, bytes);
+}
+
+static void require_answer(uint32_t answer, uint32_t due, struct memory *m)
+{
+    if (answer != due)
+        fail("%u is due, %u was answered", due, answer);
+    require_zero_field("counts", m->counts, 8 * LYRA2_COUNTS);
+}
+
+/* A refused call writes the fields of its answer and may not even read the rest, which is marked as out of reach. */
+static void require_refused(struct sizes n, uint32_t due)
 {
     struct memory m = lend_all(&n);
     (void)VALGRIND_MAKE_MEM_NOACCESS(m.password, n.password);
@@ -150,18 +167,17 @@ static void require_untouched(struct sizes n, uint32_t due)
     (void)VALGRIND_MAKE_MEM_NOACCESS(m.stored, n.key);
     (void)VALGRIND_MAKE_MEM_NOACCESS(m.matrix, 8 * n.matrix);
     (void)VALGRIND_MAKE_MEM_NOACCESS(m.record, 8 * n.record);
-    (void)VALGRIND_MAKE_MEM_NOACCESS(m.state, 8 * LYRA2_STATE_WORDS);
-    (void)VALGRIND_MAKE_MEM_NOACCESS(m.counts, 8 * LYRA2_COUNTS);
-    (void)VALGRIND_MAKE_MEM_NOACCESS(m.same, sizeof(uint32_t));
-    int refused = derive_recorded(&n, &m) == due;
-    if (due < LYRA2_REFUSED_RECORD)
-        refused = refused && derive(&n, &m) == due && check(&n, &m) == due;
+    require_answer(derive_recorded(&n, &m), due, &m);
+    require_zero_field("state", m.state, 8 * LYRA2_STATE_WORDS);
+    if (due < LYRA2_REFUSED_RECORD) {
+        require_answer(derive(&n, &m), due, &m);
+        require_answer(check(&n, &m), due, &m);
+        require_zero_field("same", m.same, sizeof *m.same);
+    }
     if (due < LYRA2_REFUSED_MATRIX) {
-        refused = refused && lyra2_cost(n.key, n.password, n.salt, n.time, n.rows, n.columns, m.counts) == due;
+        require_answer(lyra2_cost(n.key, n.password, n.salt, n.time, n.rows, n.columns, m.counts), due, &m);
         calls_made++;
     }
-    if (!refused)
-        fail("%u is due", due);
     take_all_back(&m);
 }
 
@@ -178,15 +194,15 @@ static void require_refusals(void)
     wrong[6].matrix = 35;
     wrong[7].record = 11;
     for (uint32_t i = 0; i < 8; i++)
-        require_untouched(wrong[i], i + 1);
+        require_refused(wrong[i], i + 1);
     wrong[0].key = LYRA2_KEY_MAX + 1;
-    require_untouched(wrong[0], LYRA2_REFUSED_KEY);
+    require_refused(wrong[0], LYRA2_REFUSED_KEY);
     wrong[2].salt = LYRA2_SALT_MAX + 1;
-    require_untouched(wrong[2], LYRA2_REFUSED_SALT);
+    require_refused(wrong[2], LYRA2_REFUSED_SALT);
     wrong[3].time = SIZE_MAX;
-    require_untouched(wrong[3], LYRA2_REFUSED_TIME);
+    require_refused(wrong[3], LYRA2_REFUSED_TIME);
     wrong[6].matrix = 0;
-    require_untouched(wrong[6], LYRA2_REFUSED_MATRIX);
+    require_refused(wrong[6], LYRA2_REFUSED_MATRIX);
 }
 
 /* One shape with a key, a password and a salt of these lengths, exactly lent and with words to spare. */
@@ -215,7 +231,9 @@ static void require_cost_and_walk(void)
         uint32_t answer = lyra2_walk(17, row0, row1);
         if (answer != (row0 < 3 || row0 == 17 ? LYRA2_REFUSED_ROW0 : LYRA2_ACCEPTED))
             fail("walk: answer %u for row0 %zu", answer, row0);
-        require_written("row1", row1, answer == LYRA2_ACCEPTED ? sizeof *row1 : 0, sizeof *row1);
+        require_written("row1", row1, sizeof *row1, sizeof *row1);
+        if (answer != LYRA2_ACCEPTED)
+            require_zero_field("row1", row1, sizeof *row1);
         calls_made++;
     }
     calls_made++;

@@ -1,4 +1,5 @@
-/* The order of the checks: of every two that apply the lower number is answered, and a refused call changes nothing. */
+/* The order of the checks: of every two that apply the lower number is answered, and a refused call changes nothing but
+ * the fields of its answer, which become zero. */
 #include "calls.h"
 
 #include <stdbool.h>

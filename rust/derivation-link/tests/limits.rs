@@ -1,7 +1,7 @@
 //! Document 01's limits through the static library, each from both sides, and the order of the checks.
 //!
-//! The answers are those of the C interface, numbers and all, so the tests see the places that a refused
-//! call has to leave alone.
+//! The answers are those of the C interface, numbers and all, so the tests see the places of a refused call:
+//! key, matrix and record stay as they were, and the answer's other fields become zero.
 
 use derivation_link::{input, size, sizes};
 use lyra2_reference::vectors::{Reference, Subject};
@@ -50,8 +50,8 @@ fn fitting(t: u64, r: u64, c: u64) -> Call {
 }
 
 /// What the recorded derivation, the plain one, the check and the cost question answer: 0 or the number of
-/// a refusal. A refused call must have changed nothing, and an accepted one must have given what the second
-/// program gives.
+/// a refusal. A refused call must have changed nothing but the answer's fields, which become zero, and an accepted
+/// one must have given what the second program gives.
 fn numbers(call: Call) -> [u32; 4] {
     let inputs = Inputs {
         password: &vec![1; call.password],
@@ -76,10 +76,12 @@ fn recorded(call: &Call, inputs: &Inputs) -> u32 {
     let mut due = buffers();
     let mut due_places = [WORD; 24];
     let answer = derive_recorded(inputs, &mut due.0, &mut due.1, &mut due.2);
-    if let Ok(answer) = answer {
-        due_places[2..18].copy_from_slice(&answer.state);
-        due_places[20..23].copy_from_slice(&costs(answer.counts));
-    }
+    let (due_state, due_costs) = match answer {
+        Ok(answer) => (answer.state, costs(answer.counts)),
+        Err(_) => ([0; 16], [0; 3]),
+    };
+    due_places[2..18].copy_from_slice(&due_state);
+    due_places[20..23].copy_from_slice(&due_costs);
 
     let (mut key, mut matrix, mut record) = buffers();
     let mut places = [WORD; 24];
@@ -104,7 +106,7 @@ fn derived_and_checked(call: &Call, inputs: &Inputs) -> [u32; 2] {
     let mut due_key = vec![BYTE; call.key];
     let mut due_matrix = vec![WORD; call.matrix];
     let due = Reference.derive(inputs, &mut due_key, &mut due_matrix);
-    let due_costs = due.map_or([WORD; 3], costs);
+    let due_costs = due.map_or([0; 3], costs);
 
     let (mut key, mut matrix) = (vec![BYTE; call.key], vec![WORD; call.matrix]);
     let mut spent = [WORD; 3];
@@ -115,7 +117,7 @@ fn derived_and_checked(call: &Call, inputs: &Inputs) -> [u32; 2] {
     let (mut same, mut spent) = (BYTE.into(), [WORD; 3]);
     matrix.fill(WORD);
     let checked = lyra2_sys::check(input(inputs), &due_key, &mut matrix, &mut same, &mut spent);
-    let due_same = due.map_or(BYTE.into(), |_| 1);
+    let due_same = u32::from(due.is_ok());
     assert_eq!((same, spent), (due_same, due_costs), "{call:?}");
     assert!(matrix == due_matrix, "check, matrix: {call:?}");
 
@@ -128,7 +130,7 @@ fn costs(counts: Counts) -> [u64; 3] {
 
 /// What the cost question answers, once its counts are compared.
 fn cost(given: &Parameters) -> u32 {
-    let due = Reference.cost(given).map_or([WORD; 3], costs);
+    let due = Reference.cost(given).map_or([0; 3], costs);
     let mut spent = [WORD; 3];
     let number = lyra2_sys::cost(sizes(given), &mut spent);
     assert_eq!(spent, due, "{given:?}");
@@ -304,7 +306,7 @@ fn cost_of_the_largest_numbers() {
 
 /// What the walk question answers, once its row is compared.
 fn walk(r: u64, row0: u64) -> u32 {
-    let due = Reference.walk(r, row0).unwrap_or(WORD);
+    let due = Reference.walk(r, row0).unwrap_or(0);
     let mut row1 = WORD as usize;
     let number = lyra2_sys::walk(size(r), size(row0), &mut row1);
     assert_eq!(row1 as u64, due, "R {r}, row0 {row0}");

@@ -1,7 +1,8 @@
 //! The C interface of the proved library, called with slices.
 //!
 //! Each function returns 0 or the number of a refusal and leaves the places for the answer to the caller, who
-//! can so see that a refused call changes none of them. The crate `lyra2` turns the numbers into results.
+//! can so see what a call does to them: after a refusal `same`, the counts, the state and `row1` are 0, and key,
+//! matrix and record are what they were. The crate `lyra2` turns the numbers into results.
 //!
 //! All functions here are safe to call. The proved functions ask nothing of their arguments, read and write
 //! only the elements that a pointer's length covers, keep no pointer, and end. What is left to Rust is that
@@ -104,7 +105,7 @@ pub fn derive_recorded(
     }
 }
 
-/// The check: `same` becomes 1 if the stored bytes are the key, else 0.
+/// The check: `same` becomes 1 if the stored bytes are the key, else 0; refused, it becomes 0.
 pub fn check(
     input: Input,
     stored: &[u8],
