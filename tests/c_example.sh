@@ -30,6 +30,7 @@ password='correct horse'
 numbers=('salt of 16 bytes' 1 256 64 32)
 same 'the example' "$(cat examples/derive_and_check.out)" "$(printf '%s' "$password" | "$work/example" "${numbers[@]}")"
 key=$(sed -n 's/^key: //p' examples/derive_and_check.out)
+same 'digits of the key' 64 "${#key}"
 grep -qF "$key" docs/LINKING.md || { echo 'docs/LINKING.md does not show the key'; exit 1; }
 
 refused() { # NUMBER SENTENCE ARGUMENT..

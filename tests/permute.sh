@@ -10,6 +10,7 @@ same() { # WHAT EXPECTED FOUND
 }
 
 first=$(scripts/permute.sh)
+same 'words of the starting state' 16 "$(grep -cE '^[0-9a-f]{16}$' <<<"$first")"
 same 'the starting state' "$(cat crates/permute/stdout)" "$first"
 grep -qF "$(printf '%s\n' "$first" | head -n 1)" README.md || { echo "README.md does not show the first word"; exit 1; }
 
