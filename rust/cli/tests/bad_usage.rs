@@ -210,12 +210,16 @@ fn files() {
         &format!("lyra2 derive: {is_folder}"),
     );
     let trial = DERIVE.replace("derive", "trial");
+    for output in [folder, "..", "/", "nothing/", "nothing/."] {
+        says(
+            &format!("{trial} --output {output}"),
+            &format!("lyra2 trial: {output:?}: not the name of a file"),
+        );
+    }
     says(
-        &format!("{trial} --output {folder}"),
-        &format!("lyra2 trial: {is_folder}"),
+        &format!("{trial} --output {name}/{name}"),
+        &format!("lyra2 trial: \"{name}/{name}\": No such file or directory (os error 2)"),
     );
-    let full = "lyra2 trial: \"/dev/full\": No space left on device (os error 28)";
-    says(&format!("{trial} --output /dev/full"), full);
 }
 
 /// A file's name is data: it may hold a newline or bytes that are no text, and the line stays one line.

@@ -95,34 +95,6 @@ fn a_trial_writes_what_the_second_program_leaves() {
 }
 
 #[test]
-fn a_trial_replaces_a_file_and_a_refused_one_leaves_it() {
-    let file = TemporaryFile::holding(&[7; 100_000]);
-    let rest = format!("--columns 1 --key-length 8 --output {}", file.name());
-    let start = "trial --salt 0011223344556677 --time 1 --rows";
-    let line = lyra2(&words(&format!("{start} 2 {rest}")), b"pass").failure();
-    assert_eq!(
-        line,
-        "lyra2 trial: refused 5: the number of rows R must be 3 to 16384"
-    );
-    assert_eq!(file.bytes(), [7; 100_000]);
-    lyra2(&words(&format!("{start} 3 {rest}")), b"pass").result();
-    assert_eq!(EndState::read(&file.bytes()).r, 3);
-}
-
-#[test]
-fn a_new_file_is_its_owners_alone() {
-    use std::os::unix::fs::PermissionsExt;
-    let file = trial(b"pass");
-    let mode = file
-        .path()
-        .metadata()
-        .expect("the file is there")
-        .permissions()
-        .mode();
-    assert_eq!(mode & 0o777, 0o600);
-}
-
-#[test]
 fn two_passwords_part_in_every_part() {
     let run = compare(&trial(b"pass"), &trial(b"word"));
     let lines = differing(&run);

@@ -2,14 +2,13 @@
 
 use super::Command;
 use crate::arguments::Arguments;
+use crate::end_state::replacement::Replacement;
 use crate::end_state::{write, Header};
 use crate::failure::Failure;
 use crate::help;
 use crate::input::Input;
 use crate::outcome::Outcome;
 use crate::secret::Secret;
-use std::fs::{File, OpenOptions};
-use std::os::unix::fs::OpenOptionsExt;
 use std::path::Path;
 
 pub const COMMAND: Command = Command {
@@ -32,8 +31,11 @@ pub const COMMAND: Command = Command {
         "Runs the recorded derivation, writes the state after its last visit, the used matrix and the used\n\
          record to FILE, and prints the file's length and checksum. `lyra2 compare` compares two such\n\
          files; docs/END-STATES.md describes them.",
-        "The file does not hold the password, but whoever has it can make the key: use a password that\n\
-         opens nothing. A new file is made readable for its owner alone; one that is there is replaced.",
+        "Whoever has the file can make the key, and often compute the password: use a password that opens\n\
+         nothing.",
+        "The file is written beside FILE, readable for its owner alone, and takes its name once it is whole:\n\
+         a file or a link that is there is then replaced, and stays if anything goes wrong. A folder, a\n\
+         device or a pipe, or a link to one as /dev/stdout is, is refused.",
         "  --output FILE         the end-state file",
         help::COSTS,
         "  --key-length N        bytes of the key, 1 to 1024",
@@ -52,8 +54,9 @@ fn run(arguments: &Arguments) -> Result<Outcome, Failure> {
     let mut key = Secret::zeros("key", Some(key_length))?;
     let mut matrix = Secret::zeros("matrix", input.parameters.matrix_words())?;
     let mut record = Secret::zeros("record", input.parameters.record_words())?;
-    // Opened before the work, which can take minutes, so that a wrong name is told at once.
-    let file = create(path)?;
+    let of_path = |error| Failure::of_file(path, error);
+    // Made before the work, which can take minutes, so that a wrong name is told at once.
+    let mut output = Replacement::create(path).map_err(of_path)?;
     let recorded = input.derive_recorded(&mut key, &mut matrix, &mut record)?;
     let header = Header {
         parameters: input.parameters,
@@ -61,18 +64,11 @@ fn run(arguments: &Arguments) -> Result<Outcome, Failure> {
         counts: recorded.counts,
     };
     drop((key, input));
-    let sum = write::write(file, &header, &recorded.state, &matrix, &record)
-        .map_err(|error| Failure::of_file(path, error))?;
+    let sum = write::write(&mut output.file, &header, &recorded.state, &matrix, &record)
+        .map_err(of_path)?;
+    output.put().map_err(of_path)?;
     let bytes = header.file_bytes();
     Ok(Outcome::result(format!(
         "{bytes} bytes, checksum {sum:016x}\n"
     )))
-}
-
-fn create(path: &Path) -> Result<File, Failure> {
-    let mut options = OpenOptions::new();
-    options.write(true).create(true).truncate(true).mode(0o600);
-    options
-        .open(path)
-        .map_err(|error| Failure::of_file(path, error))
 }
