@@ -13,8 +13,9 @@
  * Time          Depends on the lengths and numbers, and on the rows and columns that the visits pick, which in Lyra2
  *               depend on the password. The check compares every byte, whatever it finds.
  * Secrets       Matrix, record and state are made from the password. Whoever has them can try guesses with them, and
- *               all three together give the key. Wipe them as you wipe the key and the password. A call does not wipe
- *               the stack that it used, less than LYRA2_STACK_BYTES, which may still hold words of the key.
+ *               all three together give the key and mostly the password too, since the steps can be undone. Wipe them
+ *               as you wipe the key and the password. A call does not wipe the stack that it used, less than
+ *               LYRA2_STACK_BYTES, which may still hold words of the key.
  */
 #ifndef LYRA2_H
 #define LYRA2_H
