@@ -1,36 +1,17 @@
 #!/usr/bin/env bash
 # Every test of the repository: the proofs from nothing with their must-fail edits and programs, the layout of
-# the files, the static libraries, and Rust's tests. The last line counts them all; anything that fails makes
-# the exit status 1.
+# the files, the static libraries, and Rust's tests. The last line counts them all; anything that fails, or that
+# is named here and has not run, makes the exit status 1.
 set -u
 cd "$(dirname "$0")/.." || exit 2
 export CARGO_NET_OFFLINE=true
+. scripts/counting.sh || exit 2
 
-passed=0
-failed=0
-
-# Counts a step that either works or does not.
-step() { # WORDS COMMAND..
-    local words=$1
-    shift
-    if "$@"; then
-        passed=$((passed + 1))
-        echo "ok: $words"
-    else
-        failed=$((failed + 1))
-        echo "FAILED: $words"
-    fi
-}
-
-# Runs a command, shows what it prints, and leaves it in $output and its status in $status.
-run() {
-    local log
-    log=$(mktemp) || exit 2
-    "$@" 2>&1 | tee "$log"
-    status=${PIPESTATUS[0]}
-    output=$(cat "$log")
-    rm -f "$log"
-}
+# The crates that carry the promises of docs/PROMISES.md, the libraries, Rust's packages with tests, and tests/*.sh.
+crates='derivation recorded walk_question walk statements end_states derivation_export'
+libraries='derivation_export sponge_export'
+packages='bench cli derivation-link lyra2 reference sponge-link'
+scripts='c_example c_interface counting derive permute valgrind walk'
 
 need() { # COMMAND PACKAGE
     command -v "$1" >/dev/null 2>&1 && return
@@ -48,44 +29,27 @@ need g++ g++
 need valgrind valgrind
 command -v rt >/dev/null 2>&1 || { echo "rt, of the Rattle kit, is missing"; exit 2; }
 command -v cargo >/dev/null 2>&1 || { echo "cargo is missing"; exit 2; }
+log=$(mktemp) || exit 2
+trap 'rm -f "$log"' EXIT
 
 # ---- the proofs
-run rt ci
-tally=$(printf '%s\n' "$output" | grep -E '^[0-9]+ passed, [0-9]+ failed' | tail -n 1)
-if [ -n "$tally" ]; then
-    read -r n _ m _ <<<"$tally"
-    passed=$((passed + n))
-    failed=$((failed + m))
-    [ "$status" -eq 0 ] || [ "$m" -gt 0 ] || failed=$((failed + 1))
-else
-    echo "FAILED: rt ci printed no count"
-    failed=$((failed + 1))
-fi
+run "$log" rt ci
+count_proofs $? "$log" "$crates"
 step "the layout of the Rattle and antt files" rt fmt --check
 
 # ---- Rust's tests, over the static libraries
-for library in $(sed -n 's/^\([a-z0-9_]*_export\):.*/\1/p' crates.txt); do
+require_names "static libraries" "$libraries" "$(crate_names | grep '_export$')"
+for library in $libraries; do
     step "static library $library" rt staticlib "$library"
 done
-if cargo fmt --version >/dev/null 2>&1; then
-    step "the layout of the Rust files" cargo fmt --all --check --manifest-path rust/Cargo.toml
-fi
-run cargo test --offline --no-fail-fast --manifest-path rust/Cargo.toml
-results=$(printf '%s\n' "$output" | grep '^test result:')
-n=$(printf '%s\n' "$results" | awk '{ n += $4 } END { print n + 0 }')
-m=$(printf '%s\n' "$results" | awk '{ m += $6 } END { print m + 0 }')
-passed=$((passed + n))
-failed=$((failed + m))
-if [ "$n" -eq 0 ] || { [ "$status" -ne 0 ] && [ "$m" -eq 0 ]; }; then
-    echo "FAILED: cargo test"
-    failed=$((failed + 1))
-fi
+step "the layout of the Rust files" cargo fmt --all --check --manifest-path rust/Cargo.toml
+run "$log" cargo test --offline --no-fail-fast --manifest-path rust/Cargo.toml
+count_rust $? "$log" "$packages"
 
-# ---- what the README shows, the walk program, and the C interface
-for test in tests/*.sh; do
-    [ -e "$test" ] || continue
-    step "$test" bash "$test"
+# ---- what the README shows, the walk program, the C interface, and how all this is counted
+require_names "tests/*.sh" "$scripts" "$(cd tests && ls -- *.sh | sed 's/\.sh$//')"
+for script in $scripts; do
+    step "tests/$script.sh" bash "tests/$script.sh"
 done
 
-echo "$passed passed, $failed failed"
-[ "$failed" -eq 0 ]
+conclude
