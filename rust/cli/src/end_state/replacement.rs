@@ -63,8 +63,8 @@ fn require_replaceable(target: &Path) -> io::Result<()> {
     Err(io::Error::other("it is there and is not a regular file"))
 }
 
-/// Whether a link leads to what is not a regular file, or into /proc. The latter is how /dev/stdout names a file that is
-/// open, whatever it is; nobody who gives that name wants the link replaced.
+/// Whether a link leads to what is not a regular file, or into /proc. The latter is how /dev/stdout names a file
+/// that is open, whatever it is; nobody who gives that name wants the link replaced.
 fn leads_elsewhere(link: &Path) -> io::Result<bool> {
     let is_other = fs::metadata(link).is_ok_and(|found| !found.is_file());
     Ok(is_other || fs::read_link(link)?.starts_with("/proc"))
