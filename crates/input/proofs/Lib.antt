@@ -1,4 +1,3 @@
 -- The laws of a derivation's input and of its absorption, for the proofs of this crate and of the crates above it.
-pub mod Absorbing
 pub mod InputLaws
 pub mod Cases

@@ -116,14 +116,7 @@ module _ {row0 : ℕ} {o : Order} (h : AtRow row0 o) where
 first-at : AtRow 3 firstOrder
 unfolding firstOrder
 first-at =
-    record {
-      window = record { a = 0; sqrt-is = refl; shape = (refl, refl) };
-      j = 1;
-      row0-is = refl;
-      j-lt = omega arith;
-      row1-is = refl;
-      prev1-lt = omega arith;
-    }
+    record { window = record { a = 0; sqrt-is = refl; shape = (refl, refl) }; j = 1; row0-is = refl; j-lt = omega arith; row1-is = refl; prev1-lt = omega arith }
 
 pub order-at : (k : ℕ) → AtRow (3 + k) (order k)
 unfolding order

@@ -11,14 +11,7 @@ firstOrder = record { stp = 1; wnd = 2; sqrt = 2; rising = true; row1 = 1; prev1
 -- after a row: prev1 = row1, row1 = (row1 + stp) mod wnd
 unfoldable pub moved : Order → Order
 moved o =
-    record {
-      stp = o .stp;
-      wnd = o .wnd;
-      sqrt = o .sqrt;
-      rising = o .rising;
-      row1 = (o .row1 + o .stp) % o .wnd;
-      prev1 = o .row1;
-    }
+    record { stp = o .stp; wnd = o .wnd; sqrt = o .sqrt; rising = o .rising; row1 = (o .row1 + o .stp) % o .wnd; prev1 = o .row1 }
 
 -- a window twice as wide: the step is sqrt + gap, then the gap's sign turns, and where it has become −1 sqrt doubles as well
 unfoldable pub newWindow : Order → Order

@@ -1,4 +1,3 @@
 -- The laws of text in a buffer and of numbers in decimal digits.
 pub mod Appending
 pub mod Decimal
-pub mod Reading

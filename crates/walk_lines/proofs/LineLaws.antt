@@ -17,7 +17,7 @@ pub record Lined (a b : List ℕ) (row at : ℕ) : Type 0 where
 
 pub lined-none : {a : List ℕ} → Lined a a 3 0
 unfolding stepLines
-lined-none {a} = record { room = omega arith; put = nothing a 0 }
+lined-none {a} = record { room = omega arith; put = nothing a 0 (omega arith) }
 
 pub lined-more : {a b c : List ℕ} {o : Order} {row at next : ℕ} → Lined a b row at → Reached row o
     → Appended b c at (line row (o .row1)) next → next ≤ at + 12 → Lined a c (row + 1) next

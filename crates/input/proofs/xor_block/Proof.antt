@@ -4,7 +4,7 @@ use Prim.Native.Nat.{ℕ, _≤_, _-_, _*_}
 use native.Mathlib.Omega.{arith}
 use native.Mathlib.Numerals.{add-one}
 use mathlib.Core.List.{List}
-use lib.ListN.{take, drop}
+use lib.ListN.{take}
 use lib.Seq.{drop-drop}
 use lib.Bits.{bitXor}
 use Rattle.lists.specs.Zip.{xorInto}

@@ -1,5 +1,4 @@
 -- `compare` meets its contract. The loop's invariant: no bit differs exactly where the first i bytes are the same. Assumes nothing.
-use mathlib.Core.Path.{_≡_, refl}
 use Prim.Native.Nat.{_≤_, _-_}
 use native.Mathlib.Omega.{arith}
 use lib.ListN.{length}

@@ -1,13 +1,16 @@
 -- `append` meets its contract. The loop's invariant: the first i bytes of the text are put. Assumes nothing.
-use Prim.Native.Nat.{_-_}
+use mathlib.Core.Path.{_≡_, refl, sym}
+use Prim.Native.Nat.{_-_, _≤_}
 use native.Mathlib.Omega.{arith}
-use lib.ListN.{length}
-use Rattle.text.proofs.Appending.{Appending, appending-none, appending-more, appending-end}
+use native.Mathlib.Numerals.{add-one}
+use lib.ListN.{length, take, length-set}
+use Rattle.lists.specs.Zip.{zipAt}
+use Rattle.lists.proofs.ZipLaws.{zipAt-none, zipAt-again, zipAt-end}
 use Rattle.text.proofs.append.Statement.{statement}
 use Rattle.text.proofs.append.Tie as tie
 
 abbrev Inv-loop : tie.InvT-loop
-Inv-loop out₀ at text i₀ out i = Appending out₀ out at text i
+Inv-loop out₀ at text i₀ out i = (i ≤ length text) × (length out ≡ length out₀) × (out ≡ zipAt (λ x y. y) at out₀ (take i text))
 
 abbrev μ-loop : tie.MeasureT-loop
 μ-loop out₀ at text i₀ out i = length text - i
@@ -15,6 +18,12 @@ abbrev μ-loop : tie.MeasureT-loop
 pub append-spec : {M : Type 1} → statement M
 append-spec =
     tie.close
-    (tie.spec Inv-loop μ-loop (λ c. appending-none) (omega arith) (omega arith) (omega arith) (omega arith) (omega arith)
-    (λ c. appending-more (c .before .before .loop .inv) (omega arith) (omega arith)) (omega arith) (omega arith)
-    (λ c. appending-end (c .before .loop .inv) (omega arith)))
+    (tie.spec Inv-loop μ-loop (λ c. (omega arith, refl, sym (zipAt-none _ _ _)))
+    (omega arith) (omega arith) (omega arith) (omega arith) (omega arith)
+    (λ c.
+    let inv = c .before .before .loop .inv in
+    (omega arith, simp length-set (inv .1), rw add-one (zipAt-again _ _ _ _ _ _ _ refl (inv .2) _ (omega arith) refl)))
+    (omega arith) (omega arith)
+    (λ c.
+    let inv = c .before .loop .inv in
+    record { next-is = refl; fits = omega arith; same-length = inv .1; put = zipAt-end _ _ _ _ _ (c .before .loop .i) _ refl (inv .2) (omega arith) }))

@@ -2,7 +2,7 @@
 use Prim.Native.Nat.{_-_}
 use native.Mathlib.Omega.{arith}
 use lib.ListN.{length}
-use Rattle.text.proofs.Reading.{Reading, reading-none, reading-more, reading-end, reading-room, below-digits, above-digits}
+use Rattle.text.proofs.Decimal.{Reading, reading-none, reading-more, reading-end, reading-room, below-digits, above-digits}
 use Rattle.text.proofs.number.Statement.{statement}
 use Rattle.text.proofs.number.Tie as tie
 

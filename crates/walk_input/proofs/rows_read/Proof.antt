@@ -2,7 +2,7 @@
 use mathlib.Core.Path.{_∙_}
 use native.Mathlib.Omega.{arith}
 use lib.ListN.{length-take}
-use Rattle.walk_input.proofs.InputForm.{WellFormed, number-read, nothing-read}
+use Rattle.walk_input.proofs.InputForm.{number-read, nothing-read}
 use Rattle.walk_input.proofs.rows_read.Statement.{statement}
 use Rattle.walk_input.proofs.rows_read.Tie as tie
 

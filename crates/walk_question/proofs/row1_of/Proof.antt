@@ -1,5 +1,5 @@
 -- `row1_of` meets its contract. The loop's invariant: the order is that of the row reached. Assumes nothing.
-use mathlib.Core.Path.{_≡_, ap, _∙_}
+use mathlib.Core.Path.{ap, _∙_}
 use Prim.Native.Nat.{_-_, _≤_}
 use native.Mathlib.Omega.{arith}
 use Rattle.setup_order.specs.SetupOrder.{row1Of}
