@@ -1,13 +1,14 @@
 -- Laws of numbers as bytes: their range, their elements, and that the two directions undo each other. Assumes nothing.
 use mathlib.Core.Path.{_≡_, refl, sym, ap, ap₂, _∙_, subst}
 use Prim.Native.Nat.{ℕ, zero, suc, _+_, _*_, _/_, _%_, _^_, _≤_, _<_}
-use native.Mathlib.Nat.{not-suc-le-zero, le-of-suc-le-suc, suc-inj, lt-of-lt-of-le, mul-suc, mul-zero}
+use native.Mathlib.Nat.{not-suc-le-zero, le-of-suc-le-suc, lt-of-lt-of-le, mul-suc, mul-zero}
 use native.Mathlib.Omega.{arith}
 use mathlib.Core.List.{List, [], _∷_, _++_}
 use lib.ListN.{length, getD, take, drop, length-append, length-take, length-drop, drop-of-length-le, List·getD-append}
-use lib.Seq.{getD-take, getD-drop, getD-append-add, drop-cons, drop-drop, take-at, drop-at, take-add}
-use lib.Pow.{pow-add, pow-mono, shr-shr, shr-lt}
+use lib.Seq.{getD-take, getD-drop, getD-append-add, drop-cons}
+use lib.Pow.{pow-add, pow-mono, shr-shr}
 use lib.Arith.{digits-lt, digits-div, digits-mod}
+use Rattle.lists.proofs.ZipLaws.{length-tabulate, getD-tabulate, tabulate-words}
 use Rattle.little_endian.specs.Bytes.{leValue, leBytes, leEach, leWords}
 
 -- every element is a byte
@@ -118,24 +119,15 @@ module _ (bytes : List ℕ) (at : ℕ) where
 
 pub length-words : (n : ℕ) (bytes : List ℕ) → length (leWords n bytes) ≡ n
 unfolding leWords
-length-words zero bytes = refl
-length-words (suc n) bytes = ap suc (length-words n (drop 8 bytes))
+length-words n bytes = length-tabulate n _
 
 pub getD-words : (n : ℕ) (bytes : List ℕ) (i : ℕ) → i < n → getD (leWords n bytes) i 0 ≡ leValue (take 8 (drop (8 * i) bytes))
 unfolding leWords
-getD-words zero bytes i h = absurd (not-suc-le-zero h)
-getD-words (suc n) bytes zero h = refl
-getD-words (suc n) bytes (suc i) h =
-    let next : 8 + 8 * i ≡ 8 * suc i = omega arith in
-    getD-words n (drop 8 bytes) i (le-of-suc-le-suc h)
-    ∙ ap (λ (l : List ℕ). leValue (take 8 l)) (drop-drop (8 * i) 8 bytes ∙ ap (λ (k : ℕ). drop k bytes) next)
+getD-words n bytes i h = getD-tabulate n _ i h
 
 -- words below 2^64
 pub words-fit : (n : ℕ) (bytes : List ℕ) → AllBytes bytes → (i : ℕ) → getD (leWords n bytes) i 0 < 2 ^ 64
 unfolding leWords
-words-fit zero bytes h i = omega arith
-words-fit (suc n) bytes h zero =
-    lt-of-lt-of-le (value-lt (take 8 bytes) (take-bytes 8 bytes h)) (pow-mono {j = 64} (simp length-take (omega arith)))
-words-fit (suc n) bytes h (suc i) = words-fit n (drop 8 bytes) (drop-bytes 8 bytes h) i
-
--- ---- numbers tell the bytes
+words-fit n bytes h =
+    tabulate-words n _
+    (λ i. lt-of-lt-of-le (value-lt _ (take-bytes 8 (drop (8 * i) bytes) (drop-bytes (8 * i) bytes h))) (pow-mono {j = 64} (simp length-take (omega arith))))

@@ -1,15 +1,14 @@
 -- Numbers are known by their bytes, and bytes by the words that they make. Assumes nothing.
 use mathlib.Core.Path.{_≡_, refl, sym, ap, ap₂, _∙_}
-use Prim.Native.Nat.{ℕ, zero, suc, _+_, _*_, _/_, _^_, _≤_, _<_}
+use Prim.Native.Nat.{ℕ, zero, suc, _*_, _/_, _^_, _≤_, _<_}
 use native.Mathlib.Nat.{suc-inj}
 use native.Mathlib.Omega.{arith}
-use mathlib.Core.List.{List, [], _∷_, _++_}
+use mathlib.Core.List.{List, [], _∷_}
 use lib.ListN.{length, getD, take, drop, length-take, length-drop}
-use lib.Seq.{take-add}
 use lib.Pow.{pow-add}
-use Rattle.lists.proofs.Parts.{append-inj}
+use Rattle.lists.proofs.Parts.{append-inj, pieces-same}
 use Rattle.little_endian.specs.Bytes.{leValue, leBytes, leEach, leWords}
-use Rattle.little_endian.proofs.ByteLaws.{AllBytes, bytes-value, length-bytes, take-bytes, drop-bytes}
+use Rattle.little_endian.proofs.ByteLaws.{AllBytes, bytes-value, length-bytes, take-bytes, drop-bytes, getD-words}
 
 pub value-bytes : (n x : ℕ) → x < 2 ^ (8 * n) → leValue (leBytes n x) ≡ x
 unfolding leValue leBytes
@@ -28,18 +27,12 @@ value-inj l m hl hm len e = sym (bytes-value l hl) ∙ ap₂ leBytes len e ∙ b
 -- the bytes of n words
 pub words-inj : (n : ℕ) (l m : List ℕ) → AllBytes l → AllBytes m → 8 * n ≤ length l → 8 * n ≤ length m
     → leWords n l ≡ leWords n m → take (8 * n) l ≡ take (8 * n) m
-unfolding leWords
-words-inj zero l m hl hm fl fm e = refl
-words-inj (suc n) l m hl hm fl fm e =
-    let more : 8 * suc n ≡ 8 + 8 * n = omega arith in
-    let here : leValue (take 8 l) ≡ leValue (take 8 m) = cc in
-    let there : leWords n (drop 8 l) ≡ leWords n (drop 8 m) = cc in
-    let eight : length (take 8 l) ≡ length (take 8 m) = simp length-take (omega arith) in
-    rw (more, take-add 8 (8 * n) l, take-add 8 (8 * n) m)
-    (ap₂ (λ (a b : List ℕ). a ++ b)
-    (value-inj (take 8 l) (take 8 m) (take-bytes 8 l hl) (take-bytes 8 m hm) eight here)
-    (words-inj n (drop 8 l) (drop 8 m) (drop-bytes 8 l hl) (drop-bytes 8 m hm) (simp length-drop (omega arith))
-    (simp length-drop (omega arith)) there))
+words-inj n l m hl hm fl fm e =
+    pieces-same 8 n l m
+    (λ i lt.
+    value-inj _ _ (take-bytes 8 (drop (8 * i) l) (drop-bytes (8 * i) l hl)) (take-bytes 8 (drop (8 * i) m) (drop-bytes (8 * i) m hm))
+    (simp (length-take, length-drop) (omega arith))
+    (sym (getD-words n l i lt) ∙ ap (λ (words : List ℕ). getD words i 0) e ∙ getD-words n m i lt))
 
 -- the bytes of each number of a list
 pub each-inj : (n : ℕ) (xs ys : List ℕ) → length xs ≡ length ys → leEach n xs ≡ leEach n ys

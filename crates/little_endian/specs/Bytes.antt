@@ -2,6 +2,7 @@
 use Prim.Native.Nat.{ℕ, zero, suc, _+_, _*_, _/_, _%_}
 use mathlib.Core.List.{List, [], _∷_, _++_}
 use lib.ListN.{take, drop}
+use Rattle.lists.specs.Zip.{tabulate}
 
 -- the number that bytes stand for
 unfoldable pub leValue : List ℕ → ℕ
@@ -20,5 +21,4 @@ leEach n (x ∷ xs) = leBytes n x ++ leEach n xs
 
 -- the first n words of a list of bytes
 unfoldable pub leWords : ℕ → List ℕ → List ℕ
-leWords zero bytes = []
-leWords (suc n) bytes = leValue (take 8 bytes) ∷ leWords n (drop 8 bytes)
+leWords n bytes = tabulate n (λ i. leValue (take 8 (drop (8 * i) bytes)))

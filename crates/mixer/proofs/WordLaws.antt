@@ -1,7 +1,7 @@
 -- Laws of words: an XOR is undone by the same XOR, a turn by the turn that completes it to 64 bits, a plain sum by a difference.
 -- Assumes nothing.
 use mathlib.Core.Path.{_≡_, refl, sym, ap, ap₂, _∙_, subst}
-use Prim.Native.Nat.{ℕ, zero, suc, _+_, _-_, _*_, _/_, _%_, _^_, _≤_, _<_}
+use Prim.Native.Nat.{ℕ, zero, suc, _+_, _-_, _*_, _/_, _%_, _^_, _<_}
 use native.Mathlib.Nat.{mod-lt, mul-mod-left, add-zero, add-comm, div-add-mod'}
 use native.Mathlib.Omega.{arith}
 use lib.Arith.{bin-ind, digits-lt}
@@ -49,9 +49,6 @@ module _ (n k : ℕ) (both : n + k ≡ 64) where
   rest : 64 - n ≡ k
   rest = omega arith
 
-  whole : 2 ^ (n + k) ≡ 2 ^ 64
-  whole = ap (λ (e : ℕ). 2 ^ e) both
-
   high-part : {x : ℕ} → x < 2 ^ 64 → x / 2 ^ n < 2 ^ k
   high-part {x} h =
       shr-lt k n (subst (λ (e : ℕ). x < 2 ^ e) (sym both ∙ add-comm n k) h)
@@ -75,7 +72,7 @@ module _ (n k : ℕ) (both : n + k ≡ 64) where
   pub turn-word : (x : ℕ) → x < 2 ^ 64 → turnRight n x < 2 ^ 64
   turn-word x h =
       subst (λ (y : ℕ). y < 2 ^ 64) (sym (parts x))
-      (subst (λ (y : ℕ). x % 2 ^ n * 2 ^ k + x / 2 ^ n < y) (sym (pow-add 2 n k) ∙ whole)
+      (subst (λ (y : ℕ). x % 2 ^ n * 2 ^ k + x / 2 ^ n < y) (sym (pow-add 2 n k) ∙ ap (λ (e : ℕ). 2 ^ e) both)
       (digits-lt (mod-lt x (pow-pos n)) (high-part h)))
 
 pub turn-undo : (n k : ℕ) → n + k ≡ 64 → (x : ℕ) → x < 2 ^ 64 → turnRight k (turnRight n x) ≡ x
@@ -89,8 +86,4 @@ turn-undo n k both x h =
 -- ---- the plain sum
 
 pub plain-undoes : Undoes plain
-plain-undoes = record {
-  sum-word = λ a b ha hb. omega arith;
-  back-word = λ a b ha hb. omega arith;
-  sum-back = λ a b ha hb. omega arith;
-}
+plain-undoes = record { sum-word = λ a b ha hb. omega arith; back-word = λ a b ha hb. omega arith; sum-back = λ a b ha hb. omega arith }

@@ -13,8 +13,7 @@ use Rattle.mixer.proofs.GLaws.{FourWords, G-words, G-undo}
 use Rattle.profile.specs.declared.Quad.{Quad}
 use Rattle.profile.specs.Profile.{quads}
 use Rattle.lists.proofs.Words.{AllWords}
-use Rattle.permutation.specs.Round.{wordsAt, putWords, applyG, round, rounds}
-use Rattle.permutation.specs.Inverse.{unapplyG, unround, unrounds}
+use Rattle.permutation.specs.Round.{wordsAt, putWords, applyAt, round, rounds, unround, unrounds}
 use Rattle.permutation.proofs.State.{IsState, set-state}
 use Rattle.permutation.proofs.Quads.{Spread, Each, quads-spread}
 
@@ -41,7 +40,9 @@ module _ (q : Quad) (ij : q .0 ≢ q .1) (ik : q .0 ≢ q .2) (il : q .0 ≢ q .
   unfolding putWords
   put-put v =
       let i = q .0 in let j = q .1 in let k = q .2 in let l = q .3 in
-      rw (set-comm _ l i _ _ (λ e. il (sym e)), set-comm _ k i _ _ (λ e. ik (sym e)), set-comm _ j i _ _ (λ e. ij (sym e)), set-set _ i, set-comm _ l j _ _ (λ e. jl (sym e)), set-comm _ k j _ _ (λ e. jk (sym e)), set-set _ j, set-comm _ l k _ _ (λ e. kl (sym e)), set-set _ k, set-set _ l)
+      rw (set-comm _ l i _ _ (λ e. il (sym e)), set-comm _ k i _ _ (λ e. ik (sym e)), set-comm _ j i _ _ (λ e. ij (sym e)), set-set _ i)
+      (rw (set-comm _ l j _ _ (λ e. jl (sym e)), set-comm _ k j _ _ (λ e. jk (sym e)), set-set _ j)
+      (rw (set-comm _ l k _ _ (λ e. kl (sym e)), set-set _ k, set-set _ l)))
 
 put-wordsAt : (q : Quad) (s : List ℕ) → putWords q (wordsAt q s) s ≡ s
 unfolding wordsAt putWords
@@ -49,13 +50,13 @@ put-wordsAt q s = simp (set-getD)
 
 -- ---- the round and n rounds
 module _ {A : Addition} (u : Undoes A) where
-  applyG-state : (q : Quad) {s : List ℕ} → IsState s → IsState (applyG (A .sum) q s)
-  unfolding applyG
-  applyG-state q {s} hs = putWords-state q _ (G-words u (wordsAt q s) (wordsAt-words q s (hs .word))) hs
+  at-state : (q : Quad) {s : List ℕ} → IsState s → IsState (applyAt (G (A .sum)) q s)
+  unfolding applyAt
+  at-state q {s} hs = putWords-state q _ (G-words u (wordsAt q s) (wordsAt-words q s (hs .word))) hs
 
-  applyG-undo : (q : Quad) → Spread q → (s : List ℕ) → IsState s → unapplyG (A .back) q (applyG (A .sum) q s) ≡ s
-  unfolding applyG unapplyG
-  applyG-undo q h s hs =
+  at-undo : (q : Quad) → Spread q → (s : List ℕ) → IsState s → applyAt (unG (A .back)) q (applyAt (G (A .sum)) q s) ≡ s
+  unfolding applyAt
+  at-undo q h s hs =
       let w = G (A .sum) (wordsAt q s) in
       let a = h .apart in
       ap (λ (v : Words). putWords q v (putWords q w s))
@@ -63,14 +64,14 @@ module _ {A : Addition} (u : Undoes A) where
       ∙ G-undo u (wordsAt q s) (wordsAt-words q s (hs .word)))
       ∙ put-put q (a .0) (a .1) (a .2) (a .3) (a .4) (a .5) w s (wordsAt q s) ∙ put-wordsAt q s
 
-  all-state : (qs : List Quad) {s : List ℕ} → IsState s → IsState (foldl (λ t q. applyG (A .sum) q t) s qs)
+  all-state : (qs : List Quad) {s : List ℕ} → IsState s → IsState (foldl (λ t q. applyAt (G (A .sum)) q t) s qs)
   all-state [] hs = hs
-  all-state (q ∷ qs) hs = all-state qs (applyG-state q hs)
+  all-state (q ∷ qs) hs = all-state qs (at-state q hs)
 
-  all-undo : (qs : List Quad) → Each Spread qs → (s : List ℕ) → IsState s → foldr (unapplyG (A .back)) (foldl (λ t q. applyG (A .sum) q t) s qs) qs ≡ s
+  all-undo : (qs : List Quad) → Each Spread qs → (s : List ℕ) → IsState s → foldr (applyAt (unG (A .back))) (foldl (λ t q. applyAt (G (A .sum)) q t) s qs) qs ≡ s
   all-undo [] h s hs = refl
   all-undo (q ∷ qs) h s hs =
-      ap (unapplyG (A .back) q) (all-undo qs (h .1) (applyG (A .sum) q s) (applyG-state q hs)) ∙ applyG-undo q (h .0) s hs
+      ap (applyAt (unG (A .back)) q) (all-undo qs (h .1) (applyAt (G (A .sum)) q s) (at-state q hs)) ∙ at-undo q (h .0) s hs
 
   pub round-state : {s : List ℕ} → IsState s → IsState (round (A .sum) s)
   unfolding round

@@ -1,8 +1,8 @@
--- The round and n rounds.
+-- The round and n rounds, and their inverses.
 use Prim.Native.Nat.{ℕ, zero, suc}
-use mathlib.Core.List.{List, foldl}
+use mathlib.Core.List.{List, foldl, foldr}
 use lib.ListN.{getD, set}
-unfoldable pub use Rattle.mixer.specs.G.{G}
+unfoldable pub use Rattle.mixer.specs.G.{G, unG}
 use Rattle.mixer.specs.declared.Words.{Words}
 use Rattle.profile.specs.declared.Quad.{Quad}
 use Rattle.profile.specs.Profile.{quads}
@@ -15,14 +15,24 @@ wordsAt q s = record { a = getD s (q .0) 0; b = getD s (q .1) 0; c = getD s (q .
 unfoldable pub putWords : Quad → Words → List ℕ → List ℕ
 putWords q w s = set (set (set (set s (q .0) (w .a)) (q .1) (w .b)) (q .2) (w .c)) (q .3) (w .d)
 
--- G on the words at four positions
-unfoldable pub applyG : (ℕ → ℕ → ℕ) → Quad → List ℕ → List ℕ
-applyG sum q s = putWords q (G sum (wordsAt q s)) s
+-- a function of four words on those at four positions
+unfoldable pub applyAt : (Words → Words) → Quad → List ℕ → List ℕ
+applyAt f q s = putWords q (f (wordsAt q s)) s
 
 -- G on each quad in turn
 unfoldable pub round : (ℕ → ℕ → ℕ) → List ℕ → List ℕ
-round sum s = foldl (λ t q. applyG sum q t) s quads
+round sum s = foldl (λ t q. applyAt (G sum) q t) s quads
 
 unfoldable pub rounds : (ℕ → ℕ → ℕ) → ℕ → List ℕ → List ℕ
 rounds sum zero s = s
 rounds sum (suc n) s = round sum (rounds sum n s)
+
+-- ---- the inverses
+
+-- the last quad first
+unfoldable pub unround : (ℕ → ℕ → ℕ) → List ℕ → List ℕ
+unround back s = foldr (applyAt (unG back)) s quads
+
+unfoldable pub unrounds : (ℕ → ℕ → ℕ) → ℕ → List ℕ → List ℕ
+unrounds back zero s = s
+unrounds back (suc n) s = unrounds back n (unround back s)

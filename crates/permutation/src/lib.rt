@@ -5,13 +5,14 @@ use profile::Profile;
 use profile::Quad;
 ghost use mathlib.Core.Path.{_≡_};
 ghost use Prim.Native.Nat.{_<_};
+ghost use Rattle.mixer.specs.G.{G};
 ghost use Rattle.permutation.specs.Word.{plainSum};
-ghost use Rattle.permutation.specs.Round.{applyG, round, rounds};
+ghost use Rattle.permutation.specs.Round.{applyAt, round, rounds};
 
 // G on the words at four positions: they are read first and stored last.
 fn apply_g(s: &mut [u64; 16], q: Quad)
     requires { ⌜ (q .0 < 16) × (q .1 < 16) × (q .2 < 16) × (q .3 < 16) ⌝ }
-    ensures { λ _. ⌜ now (s .exit) ≡ applyG plainSum q (now (s .entry)) ⌝ }
+    ensures { λ _. ⌜ now (s .exit) ≡ applyAt (G plainSum) q (now (s .entry)) ⌝ }
 {
     let i = q.0;
     let j = q.1;

@@ -9,8 +9,8 @@ use lib.Bits.{bitXor}
 use Rattle.lists.specs.Zip.{xorInto}
 use Rattle.lists.proofs.Words.{AllWords, each-words}
 use Rattle.lists.proofs.ZipLaws.{length-zip, zip-undo, zip-inj, xor-words}
-use Rattle.permutation.specs.Round.{rounds}
-use Rattle.permutation.specs.Inverse.{Addition, Undoes, unrounds}
+use Rattle.mixer.specs.Word.{Addition, Undoes}
+use Rattle.permutation.specs.Round.{rounds, unrounds}
 use Rattle.mixer.proofs.WordLaws.{xor-undo, xor-undo-left}
 use Rattle.permutation.proofs.State.{IsState}
 use Rattle.permutation.proofs.Undo.{rounds-state, rounds-undo}

@@ -1,8 +1,7 @@
 -- Absorbing and duplexing.
 use Prim.Native.Nat.{ℕ}
 use mathlib.Core.List.{List}
-use Rattle.permutation.specs.Round.{rounds}
-use Rattle.permutation.specs.Inverse.{unrounds}
+use Rattle.permutation.specs.Round.{rounds, unrounds}
 use Rattle.lists.specs.Zip.{xorInto}
 unfoldable pub use Rattle.rate.specs.Rate.{rand}
 unfoldable pub use Rattle.cell_sums.specs.CellSum.{cellSum}

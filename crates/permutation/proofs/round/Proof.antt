@@ -6,14 +6,15 @@ use native.Mathlib.Omega.{arith}
 use mathlib.Core.List.{List, foldl}
 use lib.ListN.{drop}
 use Rattle.profile.specs.declared.Quad.{Quad}
+use Rattle.mixer.specs.G.{G}
 use Rattle.permutation.specs.Word.{plainSum}
-use Rattle.permutation.specs.Round.{round, applyG}
+use Rattle.permutation.specs.Round.{round, applyAt}
 use Rattle.permutation.proofs.Quads.{quad-spread, fold-step, fold-end}
 use Rattle.permutation.proofs.round.Statement.{statement}
 use Rattle.permutation.proofs.round.Tie as tie
 
 abbrev step : List ℕ → Quad → List ℕ
-step s q = applyG plainSum q s
+step s q = applyAt (G plainSum) q s
 
 pub round-spec : {M : Type 1} → statement M
 unfolding round
