@@ -5,7 +5,7 @@ use refusals::cost_refusal;
 use settings::Lengths;
 use settings::Parameters;
 ghost use mathlib.Core.Path.{_≡_};
-ghost use Prim.Native.Nat.{_<_, _^_};
+ghost use Prim.Native.Nat.{_+_, _*_, _≤_, _<_, _^_};
 ghost use Rattle.settings.specs.Settings.{settings};
 ghost use Rattle.refusals.specs.Checks.{first, costChecks, Accepted};
 ghost use Rattle.derivation.specs.Answers.{spentOn, noCosts, costs, costAnswer};
@@ -38,13 +38,21 @@ pub fn refused(number: u32) -> Costs
     }
 }
 
+// The reduced calls of Setup and T rounds of visits over so many cells.
+fn reduced_calls(cells: usize, time: usize) -> usize
+    requires { ⌜ (time ≤ 255) × (cells * (time + 1) < 2 ^ 32) ⌝ }
+    ensures { λ r. ⌜ r ≡ cells * (time + 1) ⌝ }
+{
+    cells * (time + 1)
+}
+
 // The cost of a call that no check refuses.
 fn cost_accepted(l: Lengths, p: Parameters) -> Costs
     requires { ⌜ Accepted (costChecks l p) ⌝ }
     ensures { λ r. ⌜ r ≡ costs l p ⌝ }
 {
     let full = input::block_count(l.password, l.salt, NUMBERS) + key::piece_count(l.key);
-    let reduced = p.rows * p.columns * (p.time + 1);
+    let reduced = reduced_calls(p.rows * p.columns, p.time);
     spent(full as u64, reduced as u64, p)
 }
 

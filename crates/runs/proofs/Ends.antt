@@ -35,9 +35,9 @@ module _ {p : Parameters} {x : Input} {m xs m′ xs′ : List ℕ} {r : Ran} (ru
   module _ (h : Accepted (plainChecks (lengths x) p (length m))) where
     -- what the last cell asks for
     pub can-finish : length m′ ≡ length m
-        → (1 ≤ p .columns) × (r .row0 .0 < p .rows) × (matrixWords (settings p) ≤ length m′) × (r .full < 2 ^ 32)
+        → (1 ≤ p .columns) × (r .row0 .0 < p .rows) × (r .row1 .0 < p .rows) × (matrixWords (settings p) ≤ length m′) × (r .full < 2 ^ 32)
     unfolding plainChecks costChecks inputBlocks blocks
-    can-finish e = (omega arith, run .row0-lt, omega arith, omega (arith, run .full))
+    can-finish e = (omega arith, run .row0-lt, run .row1-lt, omega arith, omega (arith, run .full))
 
     checks : Accepted (costChecks (lengths x) p)
     unfolding plainChecks costChecks

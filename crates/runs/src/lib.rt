@@ -98,7 +98,7 @@ pub struct Final {
 
 // The last cell, absorbed with a full call.
 pub fn finish(ran: Ran, m: &[u64], p: Parameters) -> Final
-    requires { ⌜ (1 ≤ p .columns) × (ran .row0 .0 < p .rows) × (matrixWords (settings p) ≤ length (now m)) × (ran .full < 2 ^ 32) ⌝ }
+    requires { ⌜ (1 ≤ p .columns) × (ran .row0 .0 < p .rows) × (ran .row1 .0 < p .rows) × (matrixWords (settings p) ≤ length (now m)) × (ran .full < 2 ^ 32) ⌝ }
     ensures { λ r. ⌜ Finished p ran (now (m .entry)) r ⌝ }
 {
     let mut state = ran.state;

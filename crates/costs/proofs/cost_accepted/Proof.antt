@@ -15,6 +15,6 @@ unfolding costs fullCost inputBlocks costChecks
 cost-accepted-spec =
     tie.close
     (tie.spec (omega arith) (omega arith) (λ c. omega (arith, full-most _ _ (c .before .before .pre)))
-    (λ c. omega (arith, cells-most (c .before .before .before .args .p .rows) (c .before .before .before .args .p .columns) (omega arith) (omega arith))) (omega arith)
-    (λ c. omega (arith, reduced-most _ _ (c .before .before .before .before .pre)))
-    (λ c κs. omega (arith, full-most _ _ (c .before .before .before .before .pre), reduced-most _ _ (c .before .before .before .before .pre))) (λ c. cc))
+    (λ c. omega (arith, cells-most (c .before .before .before .args .p .rows) (c .before .before .before .args .p .columns) (omega arith) (omega arith)))
+    (λ c κs. (omega arith, omega (arith, reduced-most _ _ (c .before .before .before .pre))))
+    (λ c κs. omega (arith, full-most _ _ (c .before .before .before .before .pre), reduced-most _ _ (c .before .before .before .before .pre), c .reduced-calls .ensures)) (λ c. cc))

@@ -9,7 +9,8 @@ use Rattle.runs.proofs.finish.Tie as tie
 cell-requires : tie.Need-cell-requires
 cell-requires c κs =
     let a = c .before .before .before .args in
-    omega (arith, row-before (a .ran .row0 .0) (a .p .rows) (a .p .columns) (c .before .before .before .pre .1))
+    let h = c .before .before .before .pre in
+    omega (arith, row-before (a .ran .row0 .0) (a .p .rows) (a .p .columns) (h .1), row-before (a .ran .row1 .0) (a .p .rows) (a .p .columns) (h .2))
 
 pub finish-spec : {M : Type 1} → statement M
 unfolding finalState
