@@ -55,19 +55,13 @@ module _ (f : ℕ → ℕ → ℕ) where
   zip-undo g e (x ∷ xs) [] = refl
   zip-undo g e (x ∷ xs) (y ∷ ys) = ap₂ (λ (h : ℕ) (t : List ℕ). h ∷ t) (e x y) (zip-undo g e xs ys)
 
-  -- where f is injective in its second operand, the second list can be told from the result
-  pub zip-inj : ((x y z : ℕ) → f x y ≡ f x z → y ≡ z) → (xs ys zs : List ℕ) → length ys ≤ length xs → length ys ≡ length zs
-      → zipInto f xs ys ≡ zipInto f xs zs → ys ≡ zs
+  -- where g tells f's second operand from its first and the result, the second list can be told
+  pub zip-told : (g : ℕ → ℕ → ℕ) → ((x y : ℕ) → g x (f x y) ≡ y) → (xs ys : List ℕ) → length ys ≤ length xs
+      → take (length ys) (zipInto g xs (zipInto f xs ys)) ≡ ys
   unfolding zipInto
-  zip-inj inj xs [] [] h e p = refl
-  zip-inj inj xs [] (z ∷ zs) h e p = absurd (omega arith)
-  zip-inj inj xs (y ∷ ys) [] h e p = absurd (omega arith)
-  zip-inj inj [] (y ∷ ys) (z ∷ zs) h e p = absurd (not-suc-le-zero h)
-  zip-inj inj (x ∷ xs) (y ∷ ys) (z ∷ zs) h e p =
-      let here : f x y ≡ f x z = cc in
-      let there : zipInto f xs ys ≡ zipInto f xs zs = cc in
-      ap₂ (λ (a : ℕ) (l : List ℕ). a ∷ l) (inj x y z here)
-      (zip-inj inj xs ys zs (le-of-suc-le-suc h) (suc-inj e) there)
+  zip-told g e xs [] h = refl
+  zip-told g e [] (y ∷ ys) h = absurd (not-suc-le-zero h)
+  zip-told g e (x ∷ xs) (y ∷ ys) h = ap₂ (λ (a : ℕ) (l : List ℕ). a ∷ l) (e x y) (zip-told g e xs ys (le-of-suc-le-suc h))
 
 pub length-tabulate : (n : ℕ) (f : ℕ → ℕ) → length (tabulate n f) ≡ n
 unfolding tabulate

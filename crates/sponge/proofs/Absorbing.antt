@@ -1,19 +1,19 @@
 -- Absorbing and duplexing keep states, are undone where the absorbed words are known, and tell the absorbed words where the
 -- state before them is known. Assumes nothing.
-use mathlib.Core.Path.{_≡_, refl, sym, ap, _∙_}
+use mathlib.Core.Path.{_≡_, refl, sym, ap, ap₂, _∙_}
 use Prim.Native.Nat.{ℕ, _≤_}
 use native.Mathlib.Omega.{arith}
 use mathlib.Core.List.{List}
-use lib.ListN.{length}
+use lib.ListN.{length, take}
 use lib.Bits.{bitXor}
 use Rattle.lists.specs.Zip.{xorInto}
 use Rattle.lists.proofs.Words.{AllWords, each-words}
-use Rattle.lists.proofs.ZipLaws.{length-zip, zip-undo, zip-inj, xor-words}
+use Rattle.lists.proofs.ZipLaws.{length-zip, zip-undo, zip-told, xor-words}
 use Rattle.mixer.specs.Word.{Addition, Undoes}
-use Rattle.permutation.specs.Round.{rounds, unrounds}
+use Rattle.permutation.specs.Round.{rounds}
 use Rattle.mixer.proofs.WordLaws.{xor-undo, xor-undo-left}
 use Rattle.permutation.proofs.State.{IsState}
-use Rattle.permutation.proofs.Undo.{rounds-state, rounds-undo}
+use Rattle.permutation.proofs.Undo.{rounds-state, rounds-undo, rounds-inj}
 use Rattle.profile.specs.Profile.{start, startingWords}
 use Rattle.sponge.specs.Sponge.{absorb, unabsorb}
 
@@ -29,9 +29,6 @@ absorb-call sum n words s t e = ap (rounds sum n) e
 xor-state : {s : List ℕ} (words : List ℕ) → AllWords words → IsState s → IsState (xorInto s words)
 xor-state {s} words hw hs =
     record { len = length-zip bitXor s words ∙ hs .len; word = xor-words s words (hs .word) hw }
-
-xor-inj : (x y z : ℕ) → bitXor x y ≡ bitXor x z → y ≡ z
-xor-inj x y z e = sym (xor-undo-left x y) ∙ ap (bitXor x) e ∙ xor-undo-left x z
 
 module _ {A : Addition} (u : Undoes A) (n : ℕ) where
   pub absorb-state : {s : List ℕ} (words : List ℕ) → AllWords words → IsState s → IsState (absorb (A .sum) n words s)
@@ -53,6 +50,6 @@ module _ {A : Addition} (u : Undoes A) (n : ℕ) where
       → absorb (A .sum) n vs s ≡ absorb (A .sum) n ws s → vs ≡ ws
   unfolding absorb
   absorbed-words s vs ws hv hw hs l e p =
-      zip-inj bitXor xor-inj s vs ws (omega (arith, hs .len)) e
-      (sym (rounds-undo u n (xorInto s vs) (xor-state vs hv hs))
-      ∙ ap (unrounds (A .back) n) p ∙ rounds-undo u n (xorInto s ws) (xor-state ws hw hs))
+      let xored = rounds-inj u n (xorInto s vs) (xorInto s ws) (xor-state vs hv hs) (xor-state ws hw hs) p in
+      sym (zip-told bitXor bitXor xor-undo-left s vs (omega (arith, hs .len)))
+      ∙ ap₂ (λ (k : ℕ) (t : List ℕ). take k (xorInto s t)) e xored ∙ zip-told bitXor bitXor xor-undo-left s ws (omega (arith, hs .len))
