@@ -6,7 +6,7 @@ ghost use mathlib.Core.Path.{_≡_};
 ghost use Prim.Native.Nat.{_%_, _<_};
 ghost use lib.ListN.{getD};
 ghost use Rattle.permutation.specs.Word.{plainSum};
-ghost use Rattle.key_bytes.specs.KeyBytes.{fullCalls, piece, callsBefore};
+ghost use Rattle.key_bytes.specs.KeyBytes.{pieceBytes, fullCalls, piece, callsBefore};
 
 const WORD_BYTES: usize = 8;
 
@@ -28,7 +28,7 @@ fn call_between(s: &mut [u64; 16], i: usize) -> u64
 
 // A byte of the output.
 fn output_byte(s: &[u64; 16], i: usize) -> u8
-    requires { ⌜ i < 96 ⌝ }
+    requires { ⌜ i < pieceBytes ⌝ }
     ensures { λ r. ⌜ r ≡ getD (piece (now (s .entry))) i 0 ⌝ }
 {
     byte_of(s[i / WORD_BYTES], i % WORD_BYTES)
@@ -42,7 +42,7 @@ pub struct Next {
 
 // Byte i of the key, out of the state that the bytes before it left.
 pub fn next_byte(s: &mut [u64; 16], i: usize) -> Next
-    ensures { λ r. ⌜ (now (s .exit) ≡ fullCalls plainSum (callsBefore i) (now (s .entry))) × (r .byte ≡ getD (piece (now (s .exit))) (i % 96) 0) × (r .calls ≡ callsBefore i) ⌝ }
+    ensures { λ r. ⌜ (now (s .exit) ≡ fullCalls plainSum (callsBefore i) (now (s .entry))) × (r .byte ≡ getD (piece (now (s .exit))) (i % pieceBytes) 0) × (r .calls ≡ callsBefore i) ⌝ }
 {
     let calls = call_between(s, i);
     let byte = output_byte(s, i % PIECE_BYTES);

@@ -6,7 +6,7 @@ ghost use mathlib.Core.Path.{_≡_};
 ghost use Prim.Native.Nat.{_+_, _*_, _≤_, _<_};
 ghost use lib.ListN.{length, getD, take, drop};
 ghost use Rattle.little_endian.specs.Bytes.{leValue};
-ghost use Rattle.padded_input.specs.Padded.{Short, padding, padded, blocks};
+ghost use Rattle.padded_input.specs.Padded.{Short, blockBytes, padding, padded, blocks};
 
 pub const BLOCK_BYTES: usize = 8 * Profile::BLOCK_WORDS;
 
@@ -52,7 +52,7 @@ fn input_byte(password: &[u8], salt: &[u8], numbers: &[u64], i: usize) -> u8
 
 // The word at byte `at` of the padded input.
 pub fn input_word(password: &[u8], salt: &[u8], numbers: &[u64], at: usize) -> u64
-    requires { ⌜ Short (length (now password)) (length (now salt)) (length (now numbers)) × (at + 8 ≤ 64 * blocks (length (now password)) (length (now salt)) (length (now numbers))) ⌝ }
+    requires { ⌜ Short (length (now password)) (length (now salt)) (length (now numbers)) × (at + 8 ≤ blockBytes * blocks (length (now password)) (length (now salt)) (length (now numbers))) ⌝ }
     ensures { λ r. ⌜ r ≡ leValue (take 8 (drop at (padded (now (password .entry)) (now (salt .entry)) (now (numbers .entry))))) ⌝ }
 {
     let mut v: u64 = 0;
