@@ -12,13 +12,13 @@ use Rattle.lists.specs.Zip.{zipAt, xorInto}
 use Rattle.lists.proofs.Words.{AllWords}
 use Rattle.lists.proofs.ZipLaws.{length-zipAt, xor-words}
 use Rattle.lists.proofs.Parts.{zipAt-undo}
-use Rattle.permutation.specs.Inverse.{Undoes}
+use Rattle.mixer.specs.Word.{Undoes}
 use Rattle.permutation.specs.Round.{rounds}
 use Rattle.permutation.proofs.State.{IsState}
 use Rattle.permutation.proofs.Undo.{rounds-state, rounds-inj}
-use Rattle.permutation.proofs.WordLaws.{xor-undo}
+use Rattle.mixer.proofs.WordLaws.{xor-undo}
 use Rattle.sponge.specs.Sponge.{rand, cellSum}
-use Rattle.sponge.proofs.Sums.{sum-words}
+use Rattle.cell_sums.proofs.Sums.{sum-words}
 use Rattle.sponge.proofs.Absorbing.{absorb-state, absorb-inj}
 use Rattle.settings.specs.Settings.{Settings}
 use Rattle.columns.specs.Columns.{Work, work, duplexed}

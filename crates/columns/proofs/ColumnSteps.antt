@@ -9,7 +9,7 @@ use lib.ListN.{length}
 use lib.Bits.{bitXor}
 use Rattle.lists.specs.Zip.{xorInto}
 use Rattle.lists.proofs.ZipLaws.{length-zip}
-use Rattle.permutation.specs.Inverse.{Undoes}
+use Rattle.mixer.specs.Word.{Undoes}
 use Rattle.permutation.proofs.State.{IsState}
 use Rattle.sponge.specs.Sponge.{rand}
 use Rattle.sponge.proofs.Output.{length-rand, rand-words}

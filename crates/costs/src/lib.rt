@@ -43,7 +43,8 @@ fn reduced_calls(cells: usize, time: usize) -> usize
     requires { ⌜ (time ≤ 255) × (cells * (time + 1) < 2 ^ 32) ⌝ }
     ensures { λ r. ⌜ r ≡ cells * (time + 1) ⌝ }
 {
-    cells * (time + 1)
+    let times = time + 1;
+    cells * times
 }
 
 // The cost of a call that no check refuses.

@@ -10,7 +10,7 @@ use mathlib.Core.List.{List}
 use lib.ListN.{length, take}
 use Rattle.lists.specs.Zip.{putInto}
 use Rattle.lists.proofs.ZipLaws.{put-front}
-use Rattle.permutation.proofs.WordLaws.{plain-undoes}
+use Rattle.mixer.proofs.WordLaws.{plain-undoes}
 use Rattle.settings.specs.Settings.{settings}
 use Rattle.settings.specs.Sizes.{matrixWords, recordWords, visitCount}
 use Rattle.settings.specs.declared.Parameters.{Parameters}

@@ -5,7 +5,7 @@ use native.Mathlib.Omega.{arith}
 use mathlib.Core.List.{List}
 use lib.ListN.{length}
 use Rattle.little_endian.proofs.ByteLaws.{AllBytes}
-use Rattle.permutation.specs.Inverse.{Undoes}
+use Rattle.mixer.specs.Word.{Undoes}
 use Rattle.profile.specs.Profile.{fullRounds}
 use Rattle.sponge.specs.Sponge.{absorb}
 use Rattle.settings.specs.Settings.{Settings}

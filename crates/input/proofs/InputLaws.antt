@@ -13,9 +13,9 @@ use Rattle.lists.proofs.Parts.{pieces-same}
 use Rattle.lists.proofs.Words.{AllWords}
 use Rattle.little_endian.proofs.ByteLaws.{AllBytes, drop-bytes, words-fit, length-words}
 use Rattle.little_endian.proofs.Injective.{words-inj}
-use Rattle.permutation.specs.Inverse.{Addition, Undoes}
+use Rattle.mixer.specs.Word.{Addition, Undoes}
 use Rattle.permutation.proofs.State.{IsState}
-use Rattle.sponge.specs.Profile.{fullRounds, start}
+use Rattle.profile.specs.Profile.{fullRounds, start}
 use Rattle.sponge.specs.Sponge.{absorb}
 use Rattle.sponge.proofs.Absorbing.{absorb-state, absorb-inj, absorbed-words, start-state}
 use Rattle.settings.specs.Settings.{Settings}

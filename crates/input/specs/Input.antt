@@ -3,7 +3,7 @@ use Prim.Native.Nat.{ℕ, zero, suc, _*_}
 use mathlib.Core.List.{List, [], _∷_}
 use lib.ListN.{length, drop}
 use Rattle.little_endian.specs.Bytes.{leWords}
-use Rattle.sponge.specs.Profile.{fullRounds, blockWords, start}
+use Rattle.profile.specs.Profile.{fullRounds, blockWords, start}
 use Rattle.sponge.specs.Sponge.{absorb}
 use Rattle.settings.specs.declared.Lengths.{Lengths}
 use Rattle.settings.specs.Settings.{Settings}

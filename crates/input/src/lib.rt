@@ -9,7 +9,7 @@ ghost use mathlib.Core.Path.{_≡_};
 ghost use Prim.Native.Nat.{_<_};
 ghost use lib.ListN.{length};
 ghost use Rattle.lists.specs.Zip.{xorInto};
-ghost use Rattle.permutation.specs.Word.{plainSum};
+ghost use Rattle.mixer.specs.Word.{plainSum};
 ghost use Rattle.settings.specs.Settings.{settings};
 ghost use Rattle.input.specs.Input.{Short, padded, blocks, block, absorbInput, input, lengths, numbers, inputBlocks};
 

@@ -5,7 +5,7 @@ ghost use mathlib.Core.Path.{_≡_};
 ghost use Prim.Native.Nat.{_^_, _<_};
 ghost use lib.ListN.{length, getD};
 ghost use lib.Bits.{bitOr, bitXor};
-ghost use Rattle.permutation.specs.Word.{plainSum};
+ghost use Rattle.mixer.specs.Word.{plainSum};
 ghost use Rattle.key.specs.Key.{keyBytes, pieces, callsBetween, squeezed, sameBytes};
 
 // How many pieces a key of so many bytes takes.

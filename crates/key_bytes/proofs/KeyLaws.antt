@@ -10,7 +10,7 @@ use Rattle.lists.proofs.ZipLaws.{length-tabulate, getD-tabulate}
 use Rattle.little_endian.specs.Bytes.{leBytes, leEach}
 use Rattle.little_endian.proofs.ByteLaws.{getD-each}
 use Rattle.permutation.specs.Round.{rounds}
-use Rattle.sponge.specs.Profile.{fullRounds}
+use Rattle.profile.specs.Profile.{fullRounds}
 use Rattle.sponge.specs.Sponge.{rand}
 use Rattle.sponge.proofs.Output.{length-rand, getD-rand}
 use Rattle.key_bytes.specs.KeyBytes.{fullCalls, piece, keyBytes, pieces, callsBetween, callsBefore, squeezed}

@@ -5,7 +5,7 @@ use lib.ListN.{getD}
 use Rattle.lists.specs.Zip.{tabulate}
 use Rattle.little_endian.specs.Bytes.{leEach}
 use Rattle.permutation.specs.Round.{rounds}
-use Rattle.sponge.specs.Profile.{fullRounds, cellWords}
+use Rattle.profile.specs.Profile.{fullRounds, cellWords}
 use Rattle.sponge.specs.Sponge.{rand}
 
 -- the bytes of words 0 to 11

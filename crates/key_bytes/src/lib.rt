@@ -1,11 +1,11 @@
 // The bytes of the key, one after another out of a state.
 use little_endian::byte_of;
-use sponge::duplex::full_call;
 use profile::Profile;
+use sponge::duplex::full_call;
 ghost use mathlib.Core.Path.{_≡_};
 ghost use Prim.Native.Nat.{_%_, _<_};
 ghost use lib.ListN.{getD};
-ghost use Rattle.permutation.specs.Word.{plainSum};
+ghost use Rattle.mixer.specs.Word.{plainSum};
 ghost use Rattle.key_bytes.specs.KeyBytes.{pieceBytes, fullCalls, piece, callsBefore};
 
 const WORD_BYTES: usize = 8;

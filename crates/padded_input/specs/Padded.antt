@@ -6,7 +6,7 @@ use lib.Dec.{eqb}
 use lib.ListN.{length}
 use Rattle.lists.specs.Zip.{tabulate}
 use Rattle.little_endian.specs.Bytes.{leEach}
-use Rattle.sponge.specs.Profile.{blockWords}
+use Rattle.profile.specs.Profile.{blockWords}
 
 abbrev pub blockBytes : ℕ
 blockBytes = 8 * blockWords

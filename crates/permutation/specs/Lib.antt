@@ -1,4 +1,2 @@
 -- The round and n rounds over G, and their inverses; words and additions are passed on from the crate below.
-pub mod Word
 pub mod Round
-pub mod Inverse

@@ -6,7 +6,7 @@ use profile::Quad;
 ghost use mathlib.Core.Path.{_≡_};
 ghost use Prim.Native.Nat.{_<_};
 ghost use Rattle.mixer.specs.G.{G};
-ghost use Rattle.permutation.specs.Word.{plainSum};
+ghost use Rattle.mixer.specs.Word.{plainSum};
 ghost use Rattle.permutation.specs.Round.{applyAt, round, rounds};
 
 // G on the words at four positions: they are read first and stored last.

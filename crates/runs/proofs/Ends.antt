@@ -5,7 +5,7 @@ use Prim.Native.Nat.{ℕ, _+_, _≤_, _<_, _^_}
 use native.Mathlib.Omega.{arith}
 use mathlib.Core.List.{List}
 use lib.ListN.{length}
-use Rattle.permutation.specs.Word.{plainSum}
+use Rattle.mixer.specs.Word.{plainSum}
 use Rattle.settings.specs.Settings.{settings}
 use Rattle.settings.specs.Sizes.{matrixWords}
 use Rattle.settings.specs.declared.Parameters.{Parameters}

@@ -1,6 +1,6 @@
 -- What a derivation goes by: what the caller gives, and what document 01 fixes now and may leave open later.
 use Prim.Native.Nat.{ℕ}
-use Rattle.permutation.specs.Inverse.{Addition, plain}
+use Rattle.mixer.specs.Word.{Addition, plain}
 use Rattle.profile.specs.Profile.{reducedRounds}
 use Rattle.settings.specs.declared.Parameters.{Parameters}
 

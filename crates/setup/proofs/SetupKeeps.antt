@@ -7,7 +7,7 @@ use native.Mathlib.Nat.{suc-mul, add-suc}
 use native.Mathlib.Decide.{decLt}
 use native.Mathlib.Omega.{arith}
 use Rattle.lists.specs.Loop.{loop}
-use Rattle.permutation.specs.Inverse.{Undoes}
+use Rattle.mixer.specs.Word.{Undoes}
 use Rattle.settings.specs.Settings.{Settings}
 use Rattle.setup_order.specs.SetupOrder.{order}
 use Rattle.columns.specs.Columns.{Work, fillColumn, copyColumn, setupColumn}

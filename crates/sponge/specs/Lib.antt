@@ -1,3 +1,2 @@
 -- The sponge over the permutation: absorbing and duplexing, with what the crates below it define.
-pub mod Profile
 pub mod Sponge

@@ -7,7 +7,7 @@ pub use rate::output;
 use rate::xor_words;
 ghost use mathlib.Core.Path.{_≡_};
 ghost use lib.ListN.{length};
-ghost use Rattle.permutation.specs.Word.{plainSum};
+ghost use Rattle.mixer.specs.Word.{plainSum};
 ghost use Rattle.profile.specs.Profile.{fullRounds, reducedRounds, cellWords};
 ghost use Rattle.cell_sums.specs.CellSum.{cellSum};
 ghost use Rattle.sponge.specs.Sponge.{absorb};

@@ -1,6 +1,6 @@
 // The sponge for tests and benchmarks in other languages: each function hands on to the proved one.
 ghost use mathlib.Core.Path.{_≡_};
-ghost use Rattle.permutation.specs.Word.{plainSum};
+ghost use Rattle.mixer.specs.Word.{plainSum};
 ghost use Rattle.permutation.specs.Round.{rounds};
 
 #[no_mangle]

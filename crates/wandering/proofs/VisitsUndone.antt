@@ -8,7 +8,7 @@ use mathlib.Core.List.{[], _∷_, _++_}
 use lib.ListN.{getD}
 use Rattle.lists.specs.Loop.{loop}
 use Rattle.lists.proofs.Traces.{Undone, loop-good, loop-met, loop-forth, loop-back}
-use Rattle.permutation.specs.Inverse.{Undoes}
+use Rattle.mixer.specs.Word.{Undoes}
 use Rattle.sponge.specs.Sponge.{rand}
 use Rattle.settings.specs.Settings.{Settings}
 use Rattle.columns.specs.Columns.{Work, pickedBy, picks, visitColumn}

@@ -3,8 +3,8 @@ use mathlib.Core.Path.{_≡_, refl, ap, _∙_}
 use Prim.Native.Nat.{_≤_, _-_}
 use native.Mathlib.Omega.{arith}
 use native.Mathlib.Numerals.{add-one}
-use Rattle.permutation.specs.Word.{plainSum}
-use Rattle.sponge.specs.Profile.{fullRounds}
+use Rattle.mixer.specs.Word.{plainSum}
+use Rattle.profile.specs.Profile.{fullRounds}
 use Rattle.sponge.specs.Sponge.{absorb}
 use Rattle.sponge.proofs.Absorbing.{absorb-call}
 use Rattle.input.specs.Input.{padded, block, absorbBlocks, absorbInput}

@@ -2,7 +2,7 @@
 use Prim.Native.Nat.{_≤_, _-_}
 use native.Mathlib.Omega.{arith}
 use lib.ListN.{length}
-use Rattle.permutation.specs.Word.{plainSum}
+use Rattle.mixer.specs.Word.{plainSum}
 use Rattle.key_bytes.proofs.KeyLaws.{Squeezed, length-key, squeezed-none, squeezed-more, squeezed-end, squeezed-byte}
 use Rattle.key.specs.Key.{keyBytes, pieces}
 use Rattle.key.proofs.Same.{Differing, differing-none, differing-more, differing-end}

@@ -6,7 +6,7 @@ use native.Mathlib.Numerals.{add-one}
 use lib.ListN.{length, take, length-set}
 use Rattle.lists.specs.Zip.{putInto}
 use Rattle.lists.proofs.ZipLaws.{zip-none, zip-again, zip-end, put-all}
-use Rattle.permutation.specs.Word.{plainSum}
+use Rattle.mixer.specs.Word.{plainSum}
 use Rattle.key_bytes.proofs.KeyLaws.{Squeezed, length-key, squeezed-none, squeezed-more, squeezed-end, squeezed-byte}
 use Rattle.key.specs.Key.{keyBytes, pieces}
 use Rattle.key.proofs.squeeze.Statement.{statement}

@@ -7,7 +7,7 @@ use mathlib.Core.List.{List, foldl}
 use lib.ListN.{drop}
 use Rattle.profile.specs.declared.Quad.{Quad}
 use Rattle.mixer.specs.G.{G}
-use Rattle.permutation.specs.Word.{plainSum}
+use Rattle.mixer.specs.Word.{plainSum}
 use Rattle.permutation.specs.Round.{round, applyAt}
 use Rattle.permutation.proofs.Quads.{quad-spread, fold-step, fold-end}
 use Rattle.permutation.proofs.round.Statement.{statement}

@@ -3,7 +3,7 @@ use mathlib.Core.Path.{_≡_, refl}
 use Prim.Native.Nat.{_≤_, _-_}
 use native.Mathlib.Omega.{arith}
 use native.Mathlib.Numerals.{add-one}
-use Rattle.permutation.specs.Word.{plainSum}
+use Rattle.mixer.specs.Word.{plainSum}
 use Rattle.permutation.specs.Round.{rounds}
 use Rattle.permutation.proofs.rounds.Statement.{statement}
 use Rattle.permutation.proofs.rounds.Tie as tie

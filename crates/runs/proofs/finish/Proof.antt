@@ -1,7 +1,12 @@
 -- `finish` meets its contract: the first cell of the last row. Assumes nothing.
-use mathlib.Core.Path.{refl}
+use mathlib.Core.Path.{refl, ap, _∙_}
+use Prim.Native.Nat.{ℕ}
+use mathlib.Core.List.{List}
 use native.Mathlib.Omega.{arith}
 use Rattle.columns.proofs.RowLaws.{row-before}
+use Rattle.mixer.specs.Word.{plainSum}
+use Rattle.profile.specs.Profile.{fullRounds}
+use Rattle.sponge.specs.Sponge.{absorb}
 use Rattle.derivation.specs.Derivation.{finalState}
 use Rattle.runs.proofs.finish.Statement.{statement}
 use Rattle.runs.proofs.finish.Tie as tie
@@ -16,4 +21,10 @@ pub finish-spec : {M : Type 1} → statement M
 unfolding finalState
 finish-spec =
     tie.close
-    (tie.spec cell-requires (omega arith) (omega arith) (λ c. record { full = refl; reduced = refl; state-is = cc }))
+    (tie.spec cell-requires (omega arith) (omega arith)
+    (λ c.
+    record {
+      full = refl;
+      reduced = refl;
+      state-is = c .before .absorb-cell .ensures ∙ ap (λ (words : List ℕ). absorb plainSum fullRounds words (c .before .before .before .before .before .before .args .ran .state)) (c .before .before .cell .ensures .0);
+    }))

@@ -5,7 +5,7 @@ use Prim.Native.Nat.{ℕ}
 use mathlib.Core.List.{List}
 use denote.Ref.{now}
 use Rattle.lists.specs.Zip.{putInto}
-use Rattle.permutation.specs.Word.{plainSum}
+use Rattle.mixer.specs.Word.{plainSum}
 use Rattle.settings.specs.Settings.{settings}
 use Rattle.settings.specs.Sizes.{visitCount}
 use Rattle.input.specs.Input.{input, numbers, absorbInput, inputState}

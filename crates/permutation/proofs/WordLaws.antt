@@ -1,1 +1,0 @@
-pub use Rattle.mixer.proofs.WordLaws.{xor-undo, plain-undoes}

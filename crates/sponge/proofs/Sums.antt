@@ -1,1 +1,0 @@
-pub use Rattle.cell_sums.proofs.Sums.{sum-words}

@@ -1,2 +1,0 @@
-pub use Rattle.profile.specs.Profile.{fullRounds, reducedRounds, blockWords, cellWords, stateWords}
-unfoldable pub use Rattle.profile.specs.Profile.{startingWords, start}
