@@ -1,7 +1,8 @@
 -- `pick_rows` meets its contract: words 0 and 2 of the state are words 0 and 2 of the output. Assumes nothing.
 use native.Mathlib.Omega.{arith}
 use denote.Ref.{now}
-use Rattle.sponge.proofs.Output.{getD-rand}
+use Rattle.settings.specs.Settings.{settings}
+use Rattle.picks.proofs.Words.{picked-by}
 use Rattle.wandering.specs.Visits.{pickedRows}
 use Rattle.wandering.proofs.pick_rows.Statement.{statement}
 use Rattle.wandering.proofs.pick_rows.Tie as tie
@@ -9,9 +10,12 @@ use Rattle.wandering.proofs.pick_rows.Tie as tie
 returns : tie.Need-returns
 unfolding pickedRows
 returns c =
-    let s = now (c .before .before .before .before .args .s) in
-    (c .before .before .picked .ensures .1, c .picked2 .ensures .1, cc (getD-rand s 0 (omega arith), getD-rand s 2 (omega arith)))
+    let a = c .before .before .before .before .args in
+    let row0 = c .before .before .picked .ensures in
+    let row1 = c .picked2 .ensures in
+    let e0 = picked-by (settings (a .p)) 0 (a .p .rows) (now (a .s)) (omega arith) (row0 .0) in
+    let e1 = picked-by (settings (a .p)) 1 (a .p .rows) (now (a .s)) (omega arith) (row1 .0) in
+    (row0 .1, row1 .1, λ i. record { row0 = record { 0 = e0 i }; row1 = record { 0 = e1 i }; prev0 = a .prev0; prev1 = a .prev1 })
 
 pub pick-rows-spec : {M : Type 1} → statement M
-pick-rows-spec =
-    tie.close (tie.spec (omega arith) (omega arith) (omega arith) (omega arith) returns)
+pick-rows-spec = tie.close (tie.spec (omega arith) (omega arith) (omega arith) (omega arith) returns)

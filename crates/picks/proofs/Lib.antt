@@ -1,0 +1,2 @@
+-- What the words of the output pick.
+pub mod Words
