@@ -8,7 +8,7 @@ export CARGO_NET_OFFLINE=true
 . scripts/counting.sh || exit 2
 
 # The crates that carry the promises of docs/PROMISES.md, the libraries, Rust's packages with tests, and tests/*.sh.
-crates='derivation recorded walk_question walk statements end_states derivation_export'
+crates='costs deriving checking recorded walk_question walk statements end_states derivation_export'
 libraries='derivation_export sponge_export'
 packages='bench cli derivation-link lyra2 reference sponge-link'
 scripts='c_example c_interface counting derive permute valgrind walk'
