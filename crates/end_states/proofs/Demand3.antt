@@ -6,7 +6,6 @@ use mathlib.Core.Path.{_≡_, sym, ap, _∙_}
 use mathlib.Core.Logic.{_↔_}
 use Prim.Native.Nat.{ℕ}
 use native.Mathlib.Omega.{arith}
-use mathlib.Core.List.{List}
 use lib.ListN.{length, take}
 use Rattle.lists.specs.Zip.{putInto}
 use Rattle.lists.proofs.ZipLaws.{put-front}
@@ -18,7 +17,7 @@ use Rattle.input.specs.Input.{lengths, inputState}
 use Rattle.wandering.proofs.Recording.{length-visits}
 use Rattle.refusals.specs.Checks.{Accepted, costChecks, plainChecks, recordedChecks}
 use Rattle.refusals.proofs.Accepted.{accepted}
-use Rattle.derivation.specs.Derivation.{setupEnd, endMatrix, endRecord}
+use Rattle.derivation.specs.Derivation.{setupEnd, endRecord}
 use Rattle.derivation.specs.Contracts.{recordedNumber}
 use Rattle.derivation.proofs.Answering.{answered-is, accepted-number}
 use Rattle.end_states.specs.EndStates.{EndAlike, StartAlike, AtMostOneDiffers, endOf}

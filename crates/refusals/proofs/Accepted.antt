@@ -7,7 +7,7 @@ use mathlib.Core.Bool.{Bool, true, false, cond, _||_, true≢false}
 use mathlib.Core.List.{List, [], _∷_, _++_}
 use lib.Dec.{ltb}
 use borrow.Author.Tests.{ltb-false}
-use Rattle.refusals.specs.Checks.{Check, range, atLeast, numberOf, refuses, first, outside, Holds, Accepted}
+use Rattle.refusals.specs.Checks.{Check, range, atLeast, numberOf, refuses, first, Holds, Accepted}
 
 -- numbers above 0
 abbrev pub Numbered : List Check → Type 0

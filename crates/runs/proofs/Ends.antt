@@ -16,7 +16,7 @@ use Rattle.key.specs.Key.{keyBytes, callsBetween}
 use Rattle.refusals.specs.Checks.{Accepted, costChecks, plainChecks}
 use Rattle.derivation.specs.Answers.{spentOn, costs}
 use Rattle.derivation.specs.Cost.{fullCost}
-use Rattle.derivation.specs.Derivation.{finalState, walkEnd, keyOf, endState, endMatrix}
+use Rattle.derivation.specs.Derivation.{finalState, keyOf, endState, endMatrix}
 use Rattle.derivation.specs.declared.Costs.{Costs}
 use Rattle.derivation.proofs.Answering.{full-most, reduced-most, full-calls}
 use Rattle.runs.specs.Runs.{Run, Finished}

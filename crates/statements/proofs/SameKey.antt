@@ -17,8 +17,8 @@ use Rattle.key.proofs.Same.{same-of-equal, equal-of-same}
 use Rattle.refusals.specs.Checks.{costChecks, plainChecks, recordedChecks}
 use Rattle.refusals.proofs.Accepted.{accepted}
 use Rattle.derivation.specs.Answers.{flag}
-use Rattle.derivation.specs.Derivation.{keyOf, endMatrix}
-use Rattle.derivation.specs.Contracts.{plainNumber, recordedNumber, Derived, Compared, Recorded}
+use Rattle.derivation.specs.Derivation.{keyOf}
+use Rattle.derivation.specs.Contracts.{plainNumber, Derived, Compared, Recorded}
 use Rattle.derivation.specs.declared.Costs.{Costs}
 use Rattle.derivation.proofs.Answering.{answered-is, accepted-number}
 use Rattle.end_states.proofs.Keys.{key-of-any-matrix}

@@ -1,19 +1,16 @@
 -- The cases of document 01 that are marked P, as one joint statement about the rules.
 use mathlib.Core.Path.{_≡_}
 use Prim.Native.Nat.{ℕ, _-_}
-use mathlib.Core.List.{List, [], _∷_, _++_}
+use mathlib.Core.List.{[], _∷_, _++_}
 use lib.ListN.{length, getD, drop, replicate}
 use Rattle.mixer.specs.Word.{plainSum}
 use Rattle.mixer.specs.G.{G}
 use Rattle.mixer.specs.declared.Words.{Words}
 use Rattle.setup_order.specs.SetupOrder.{order, row1Of}
 use Rattle.settings.specs.Settings.{Settings}
-use Rattle.settings.specs.declared.Parameters.{Parameters}
-use Rattle.settings.specs.declared.Lengths.{Lengths}
 use Rattle.input.specs.Input.{Input, paddedInput}
 use Rattle.derivation.specs.Cost.{fullCost}
 use Rattle.derivation.specs.Answers.{costs}
-use Rattle.derivation.specs.declared.Costs.{Costs}
 
 abbrev pub four : ℕ → ℕ → ℕ → ℕ → Words
 four a b c d = record { a = a; b = b; c = c; d = d }

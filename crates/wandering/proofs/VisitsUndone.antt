@@ -1,15 +1,13 @@
 -- A visit and all visits are undone with their picks known: the state after tells the output, so both XORs are undone, also on one
 -- cell; then the duplexed sum is known, and with it the state before. Assumes nothing.
 use mathlib.Core.Path.{_≡_, refl, sym, ap, _∙_, subst}
-use Prim.Native.Nat.{ℕ, suc, _*_, _%_, _<_}
+use Prim.Native.Nat.{ℕ, suc, _*_, _<_}
 use native.Mathlib.Nat.{mod-lt}
 use native.Mathlib.Omega.{arith}
 use mathlib.Core.List.{[], _∷_, _++_}
-use lib.ListN.{getD}
 use Rattle.lists.specs.Loop.{loop}
 use Rattle.lists.proofs.Traces.{Undone, loop-good, loop-met, loop-forth, loop-back}
 use Rattle.mixer.specs.Word.{Undoes}
-use Rattle.sponge.specs.Sponge.{rand}
 use Rattle.settings.specs.Settings.{Settings}
 use Rattle.columns.specs.Columns.{Work, pickedBy, picks, visitColumn}
 use Rattle.columns.specs.declared.Rows.{Rows}

@@ -6,7 +6,7 @@ use picks::picked;
 use settings::Parameters;
 use visit_columns::visit_column;
 ghost use mathlib.Core.Path.{_≡_};
-ghost use Prim.Native.Nat.{_+_, _*_, _≤_, _<_, _^_};
+ghost use Prim.Native.Nat.{_+_, _*_, _<_, _^_};
 ghost use mathlib.Core.List.{[]};
 ghost use lib.ListN.{length, set};
 ghost use Rattle.lists.specs.Zip.{zipAt};

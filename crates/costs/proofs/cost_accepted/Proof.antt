@@ -1,6 +1,5 @@
 -- `cost_accepted` meets its contract: the two counts stay far below a word. Assumes nothing.
 use native.Mathlib.Omega.{arith}
-use Rattle.padded_input.specs.Padded.{blocks}
 use Rattle.input.specs.Input.{inputBlocks}
 use Rattle.refusals.specs.Checks.{costChecks}
 use Rattle.refusals.proofs.Accepted.{cells-most}

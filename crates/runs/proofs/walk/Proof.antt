@@ -1,13 +1,12 @@
 -- `walk` meets its contract: Setup, then the visits. Assumes nothing.
-use mathlib.Core.Path.{_≡_, ap, ap₂, _∙_}
-use Prim.Native.Nat.{ℕ, _+_, _-_, _*_, _≤_, _<_, _^_}
+use mathlib.Core.Path.{ap, ap₂, _∙_}
+use Prim.Native.Nat.{ℕ, _+_, _-_, _*_, _≤_}
 use native.Mathlib.Nat.{le-trans, mul-le-mul}
 use native.Mathlib.Omega.{arith}
-use mathlib.Core.List.{List}
 use denote.Ref.{now}
 use Rattle.lists.specs.Zip.{putInto}
 use Rattle.settings.specs.Settings.{settings}
-use Rattle.settings.specs.Sizes.{visitCount, visitWords}
+use Rattle.settings.specs.Sizes.{visitCount}
 use Rattle.settings.specs.declared.Parameters.{Parameters}
 use Rattle.columns.specs.Columns.{Work}
 use Rattle.setup_order.proofs.Windows.{prev1-lt}

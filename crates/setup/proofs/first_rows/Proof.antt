@@ -1,6 +1,5 @@
 -- `first_rows` meets its contract: the three rows in their order. Assumes nothing.
 use native.Mathlib.Omega.{arith}
-use Rattle.setup.specs.Setup.{fillRow}
 use Rattle.setup.proofs.first_rows.Statement.{statement}
 use Rattle.setup.proofs.first_rows.Tie as tie
 

@@ -1,7 +1,7 @@
 -- `visit_row` meets its contract. The loop's invariant: work and record are those of the first col columns, each a reduced call, and p are the
 -- picks of the next. Assumes nothing.
 use mathlib.Core.Path.{_≡_, refl, sym, ap, subst, _∙_}
-use Prim.Native.Nat.{ℕ, _≤_, _<_, _-_}
+use Prim.Native.Nat.{ℕ, _≤_, _-_}
 use native.Mathlib.Omega.{arith}
 use lib.ListN.{length}
 use Rattle.lists.specs.Zip.{zipAt}

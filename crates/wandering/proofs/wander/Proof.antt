@@ -1,6 +1,6 @@
 -- `wander` meets its contract. The loop's invariant: where what stands before it is what one visit leaves, it is what k visits leave, and the record
 -- goes on at the next visit's place. Assumes nothing.
-use mathlib.Core.Path.{_≡_, refl, sym, ap, subst, _∙_}
+use mathlib.Core.Path.{_≡_, refl, sym, subst, _∙_}
 use Prim.Native.Nat.{ℕ, _≤_, _<_, _-_, _+_, _*_, _^_}
 use native.Mathlib.Omega.{arith}
 use native.Mathlib.Nat.{zero-mul, zero-add}
@@ -12,7 +12,7 @@ use Rattle.settings.specs.Sizes.{visitWords}
 use Rattle.columns.specs.Columns.{work}
 use Rattle.columns.proofs.RowLaws.{row-more, row-before}
 use Rattle.wandering.specs.Visits.{Walk, walk}
-use Rattle.wandering.specs.Wandered.{Ready, Wandered}
+use Rattle.wandering.specs.Wandered.{Wandered}
 use Rattle.wandering.proofs.Recording.{wandered-none, wandered-more}
 use Rattle.wandering.proofs.wander.Statement.{statement}
 use Rattle.wandering.proofs.wander.Tie as tie
