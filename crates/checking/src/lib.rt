@@ -10,13 +10,9 @@ use settings::Lengths;
 use settings::Parameters;
 ghost use mathlib.Core.Path.{_≡_};
 ghost use lib.ListN.{length};
-ghost use Rattle.settings.specs.Settings.{settings};
-ghost use Rattle.input.specs.Input.{input, lengths};
-ghost use Rattle.key.specs.Key.{sameBytes};
-ghost use Rattle.refusals.specs.Checks.{Accepted, plainChecks};
-ghost use Rattle.derivation.specs.Answers.{costs, flag};
-ghost use Rattle.derivation.specs.Derivation.{keyOf, endMatrix};
-ghost use Rattle.derivation.specs.Contracts.{Compared};
+ghost use Rattle.input.specs.Input.{input};
+ghost use Rattle.derivation.specs.Answers.{flag};
+ghost use Rattle.derivation.specs.Contracts.{plainNumber, Compared};
 
 // What a check answers.
 pub struct Checked {
@@ -32,8 +28,8 @@ fn check_accepted(
     stored: &[u8],
     matrix: &mut [u64],
 ) -> Checked
-    requires { ⌜ Accepted (plainChecks (lengths (input (now password) (now salt) (length (now stored)))) p (length (now matrix))) ⌝ }
-    ensures { λ r. ⌜ (r .costs ≡ costs (lengths (input (now (password .entry)) (now (salt .entry)) (length (now (stored .entry))))) p) × (r .same ≡ sameBytes (now (stored .entry)) (keyOf (settings p) (input (now (password .entry)) (now (salt .entry)) (length (now (stored .entry)))) (now (matrix .entry)))) × (now (matrix .exit) ≡ endMatrix (settings p) (input (now (password .entry)) (now (salt .entry)) (length (now (stored .entry)))) (now (matrix .entry))) ⌝ }
+    requires { ⌜ plainNumber p (input (now password) (now salt) (length (now stored))) (now matrix) ≡ 0 ⌝ }
+    ensures { λ r. ⌜ Compared p (input (now (password .entry)) (now (salt .entry)) (length (now (stored .entry)))) (now (stored .entry)) (now (matrix .entry)) (now (matrix .exit)) (r .costs) (flag (r .same)) ⌝ }
 {
     let mut none: [u64; 0] = [];
     let ran = run(password, salt, stored.len(), p, matrix, &mut none);

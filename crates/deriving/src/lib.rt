@@ -10,12 +10,8 @@ use settings::Lengths;
 use settings::Parameters;
 ghost use mathlib.Core.Path.{_≡_};
 ghost use lib.ListN.{length};
-ghost use Rattle.settings.specs.Settings.{settings};
-ghost use Rattle.input.specs.Input.{input, lengths};
-ghost use Rattle.refusals.specs.Checks.{Accepted, plainChecks};
-ghost use Rattle.derivation.specs.Answers.{costs};
-ghost use Rattle.derivation.specs.Derivation.{keyOf, endMatrix};
-ghost use Rattle.derivation.specs.Contracts.{Derived};
+ghost use Rattle.input.specs.Input.{input};
+ghost use Rattle.derivation.specs.Contracts.{plainNumber, Derived};
 
 // The plain derivation of a call that no check refuses.
 fn derive_accepted(
@@ -25,8 +21,8 @@ fn derive_accepted(
     key: &mut [u8],
     matrix: &mut [u64],
 ) -> Costs
-    requires { ⌜ Accepted (plainChecks (lengths (input (now password) (now salt) (length (now key)))) p (length (now matrix))) ⌝ }
-    ensures { λ r. ⌜ (r ≡ costs (lengths (input (now (password .entry)) (now (salt .entry)) (length (now (key .entry))))) p) × (now (key .exit) ≡ keyOf (settings p) (input (now (password .entry)) (now (salt .entry)) (length (now (key .entry)))) (now (matrix .entry))) × (now (matrix .exit) ≡ endMatrix (settings p) (input (now (password .entry)) (now (salt .entry)) (length (now (key .entry)))) (now (matrix .entry))) ⌝ }
+    requires { ⌜ plainNumber p (input (now password) (now salt) (length (now key))) (now matrix) ≡ 0 ⌝ }
+    ensures { λ r. ⌜ Derived p (input (now (password .entry)) (now (salt .entry)) (length (now (key .entry)))) (now (key .entry)) (now (matrix .entry)) (now (key .exit)) (now (matrix .exit)) r ⌝ }
 {
     let mut none: [u64; 0] = [];
     let ran = run(password, salt, key.len(), p, matrix, &mut none);

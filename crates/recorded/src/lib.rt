@@ -10,13 +10,8 @@ use settings::Lengths;
 use settings::Parameters;
 ghost use mathlib.Core.Path.{_≡_};
 ghost use lib.ListN.{length};
-ghost use Rattle.lists.specs.Zip.{putInto};
-ghost use Rattle.settings.specs.Settings.{settings};
-ghost use Rattle.input.specs.Input.{input, lengths};
-ghost use Rattle.refusals.specs.Checks.{Accepted, recordedChecks};
-ghost use Rattle.derivation.specs.Answers.{costs};
-ghost use Rattle.derivation.specs.Derivation.{keyOf, endState, endMatrix, endRecord};
-ghost use Rattle.derivation.specs.Contracts.{Recorded as «recorded-contract»};
+ghost use Rattle.input.specs.Input.{input};
+ghost use Rattle.derivation.specs.Contracts.{recordedNumber, Recorded as «recorded-contract»};
 
 // What the recorded derivation answers: the costs, and the state after the last visit.
 pub struct Recording {
@@ -33,8 +28,8 @@ fn record_accepted(
     matrix: &mut [u64],
     record: &mut [u64],
 ) -> Recording
-    requires { ⌜ Accepted (recordedChecks (lengths (input (now password) (now salt) (length (now key)))) p (length (now matrix)) (length (now «record»))) ⌝ }
-    ensures { λ r. ⌜ (r .costs ≡ costs (lengths (input (now (password .entry)) (now (salt .entry)) (length (now (key .entry))))) p) × (r .state ≡ endState (settings p) (input (now (password .entry)) (now (salt .entry)) (length (now (key .entry)))) (now (matrix .entry))) × (now (key .exit) ≡ keyOf (settings p) (input (now (password .entry)) (now (salt .entry)) (length (now (key .entry)))) (now (matrix .entry))) × (now (matrix .exit) ≡ endMatrix (settings p) (input (now (password .entry)) (now (salt .entry)) (length (now (key .entry)))) (now (matrix .entry))) × (now («record» .exit) ≡ putInto (now («record» .entry)) (endRecord (settings p) (input (now (password .entry)) (now (salt .entry)) (length (now (key .entry)))) (now (matrix .entry)))) ⌝ }
+    requires { ⌜ recordedNumber p (input (now password) (now salt) (length (now key))) (now matrix) (now «record») ≡ 0 ⌝ }
+    ensures { λ r. ⌜ «recorded-contract» p (input (now (password .entry)) (now (salt .entry)) (length (now (key .entry)))) (now (key .entry)) (now (matrix .entry)) (now («record» .entry)) (now (key .exit)) (now (matrix .exit)) (now («record» .exit)) (r .costs) (r .state) ⌝ }
 {
     let ran = run(password, salt, key.len(), p, matrix, record);
     let end = finish(ran, matrix, p);

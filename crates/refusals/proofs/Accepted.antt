@@ -7,7 +7,9 @@ use mathlib.Core.Bool.{Bool, true, false, cond, _||_, true≢false}
 use mathlib.Core.List.{List, [], _∷_, _++_}
 use lib.Dec.{ltb}
 use borrow.Author.Tests.{ltb-false}
-use Rattle.refusals.specs.Checks.{Check, range, atLeast, numberOf, refuses, first, Holds, Accepted}
+use Rattle.settings.specs.declared.Parameters.{Parameters}
+use Rattle.settings.specs.declared.Lengths.{Lengths}
+use Rattle.refusals.specs.Checks.{Check, range, atLeast, numberOf, refuses, first, Holds, Accepted, costChecks, plainChecks, recordedChecks}
 
 -- numbers above 0
 abbrev pub Numbered : List Check → Type 0
@@ -42,6 +44,16 @@ module _ (c : Check) (cs : List Check) where
   pub first-passed : refuses c ≡ false → first (c ∷ cs) ≡ first cs
   unfolding first
   first-passed e = ap (λ (b : Bool). cond b (numberOf c) (first cs)) e
+
+-- the lists of the derivations
+module _ (l : Lengths) (p : Parameters) (m : ℕ) where
+  pub plain-accepted : first (plainChecks l p m) ≡ 0 → Accepted (plainChecks l p m)
+  unfolding plainChecks costChecks
+  plain-accepted e = accepted (plainChecks l p m) (omega arith) e
+
+  pub recorded-accepted : (v : ℕ) → first (recordedChecks l p m v) ≡ 0 → Accepted (plainChecks l p m)
+  unfolding recordedChecks plainChecks costChecks
+  recorded-accepted v e = let h = accepted (recordedChecks l p m v) (omega arith) e in omega arith
 
 -- ---- one check more: what the code returns where an earlier check refused, and what where none did
 

@@ -1,10 +1,7 @@
 -- `check` meets its contract: a refusal that touches nothing and says no, or the comparison. Assumes nothing.
-use mathlib.Core.Path.{refl, sym, ap, _∙_}
+use mathlib.Core.Path.{refl, sym, _∙_}
 use native.Mathlib.Omega.{arith}
-use Rattle.refusals.specs.Checks.{plainChecks, costChecks}
-use Rattle.refusals.proofs.Accepted.{accepted}
-use Rattle.derivation.specs.Answers.{flag}
-use Rattle.derivation.proofs.Answering.{answered-yes, answered-no, cost-yes, cost-no}
+use Rattle.derivation.proofs.Answering.{answered-no, cost-no}
 use Rattle.checking.proofs.check.Statement.{statement}
 use Rattle.checking.proofs.check.Tie as tie
 
@@ -17,20 +14,8 @@ returns c =
       matrix-after = answered-no _ _ (λ z. c .before .if1 .taken (e ∙ z)) refl;
     }
 
-check-accepted-requires : tie.Need-check-accepted-requires
-unfolding plainChecks costChecks
-check-accepted-requires c κs = accepted _ (omega arith) (sym (c .before .before .plain-refusal .ensures) ∙ c .before .if1 .left)
-
-returns-2 : tie.Need-returns-2
-returns-2 c =
-    let none = sym (c .before .before .before .before .before .plain-refusal .ensures) ∙ c .before .before .before .before .if1 .left in
-    let d = c .before .before .check-accepted .ensures in
-    record {
-      answer = cost-yes _ _ none (d .0);
-      same-is = answered-yes _ _ none (ap flag (d .1));
-      matrix-after = answered-yes _ _ none (d .2);
-    }
-
 pub check-spec : {M : Type 1} → statement M
 check-spec =
-    tie.close (tie.spec (omega arith) (omega arith) returns check-accepted-requires (omega arith) returns-2)
+    tie.close
+    (tie.spec (omega arith) (omega arith) returns (λ c κs. sym (c .before .before .plain-refusal .ensures) ∙ c .before .if1 .left)
+    (omega arith) (λ c. c .before .before .check-accepted .ensures))

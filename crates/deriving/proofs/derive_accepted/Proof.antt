@@ -1,27 +1,34 @@
 -- `derive_accepted` meets its contract: the run, the last cell, then the key. Assumes nothing.
 use mathlib.Core.Path.{_∙_}
 use native.Mathlib.Omega.{arith}
+use Rattle.refusals.proofs.Accepted.{plain-accepted}
+use Rattle.derivation.proofs.Answering.{answered-yes, cost-yes}
 use Rattle.runs.proofs.Ends.{matrix-after, can-finish, key-after, counts-fit, costs-after}
 use Rattle.deriving.proofs.derive_accepted.Statement.{statement}
 use Rattle.deriving.proofs.derive_accepted.Tie as tie
 
 add-spent : tie.Need-add-spent
-add-spent c = omega (arith, counts-fit (c .before .before .before .before .before .before .before .before .before .before .before .before .run .ensures) (c .before .before .before .before .before .before .before .before .before .before .before .before .before .before .before .before .before .before .before .pre) (c .before .before .before .before .before .before .before .finish .ensures) (c .before .before .before .squeeze .ensures .2))
+add-spent c = omega (arith, counts-fit (c .before .before .before .before .before .before .before .before .before .before .before .before .run .ensures) (plain-accepted _ _ _ (c .before .before .before .before .before .before .before .before .before .before .before .before .before .before .before .before .before .before .before .pre)) (c .before .before .before .before .before .before .before .finish .ensures) (c .before .before .before .squeeze .ensures .2))
 
 spent-requires : tie.Need-spent-requires
-spent-requires c κs = omega (arith, counts-fit (c .before .before .before .before .before .before .before .before .before .before .before .before .run .ensures) (c .before .before .before .before .before .before .before .before .before .before .before .before .before .before .before .before .before .before .before .pre) (c .before .before .before .before .before .before .before .finish .ensures) (c .before .before .before .squeeze .ensures .2))
+spent-requires c κs = omega (arith, counts-fit (c .before .before .before .before .before .before .before .before .before .before .before .before .run .ensures) (plain-accepted _ _ _ (c .before .before .before .before .before .before .before .before .before .before .before .before .before .before .before .before .before .before .before .pre)) (c .before .before .before .before .before .before .before .finish .ensures) (c .before .before .before .squeeze .ensures .2))
 
 returns : tie.Need-returns
 returns c =
+    let none = c .before .before .before .before .before .before .before .before .before .before .before .before .before .before .before .before .before .before .before .before .pre in
+    let h = plain-accepted _ _ _ none in
     let run = c .before .before .before .before .before .before .before .before .before .before .before .before .before .run .ensures in
-    let h = c .before .before .before .before .before .before .before .before .before .before .before .before .before .before .before .before .before .before .before .before .pre in
     let end = c .before .before .before .before .before .before .before .before .finish .ensures in
     let key = c .before .before .before .before .squeeze .ensures in
-    (costs-after run h end (key .2) (c .spent .ensures), key .0 ∙ key-after run h end, matrix-after run)
+    record {
+      answer = cost-yes _ _ none (costs-after run h end (key .2) (c .spent .ensures));
+      key-after = answered-yes _ _ none (key .0 ∙ key-after run h end);
+      matrix-after = answered-yes _ _ none (matrix-after run);
+    }
 
 pub derive-accepted-spec : {M : Type 1} → statement M
 derive-accepted-spec =
     tie.close
-    (tie.spec (omega arith) (λ c κs. c .before .before .before .before .before .before .pre)
-    (λ c κs. can-finish (c .before .before .before .before .run .ensures) (c .before .before .before .before .before .before .before .before .before .before .before .pre) (omega (arith, c .before .before .before .before .run .kept))) (omega arith) add-spent
+    (tie.spec (omega arith) (λ c κs. plain-accepted _ _ _ (c .before .before .before .before .before .before .pre))
+    (λ c κs. can-finish (c .before .before .before .before .run .ensures) (plain-accepted _ _ _ (c .before .before .before .before .before .before .before .before .before .before .before .pre)) (omega (arith, c .before .before .before .before .run .kept))) (omega arith) add-spent
     spent-requires (omega arith) (omega arith) returns)
