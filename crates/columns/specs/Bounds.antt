@@ -2,6 +2,7 @@
 use mathlib.Core.Path.{_≡_}
 use Prim.Native.Nat.{ℕ, _+_, _*_, _≤_, _<_}
 use mathlib.Core.List.{List}
+use Rattle.profile.specs.Profile.{cellWords}
 use Rattle.settings.specs.Settings.{Settings}
 use Rattle.columns.specs.Columns.{picks}
 use Rattle.columns.specs.declared.Rows.{Rows}
@@ -9,17 +10,17 @@ use Rattle.columns.specs.declared.Picks.{Picks}
 
 -- the row that Setup fills is within a matrix of n words, and the rows that it reads are before it
 pub record Filling (C : ℕ) (r : Rows) (n : ℕ) : Type 0 where
-  pub row0 : 12 * (r .row0 .0 * C + C) ≤ n
+  pub row0 : cellWords * (r .row0 .0 * C + C) ≤ n
   pub row1 : r .row1 .0 * C + C ≤ r .row0 .0 * C
   pub prev0 : r .prev0 .0 * C + C ≤ r .row0 .0 * C
   pub prev1 : r .prev1 .0 * C + C ≤ r .row0 .0 * C
 
 -- all four rows of a visit are within a matrix of n words
 pub record Within (C : ℕ) (r : Rows) (n : ℕ) : Type 0 where
-  pub row0 : 12 * (r .row0 .0 * C + C) ≤ n
-  pub row1 : 12 * (r .row1 .0 * C + C) ≤ n
-  pub prev0 : 12 * (r .prev0 .0 * C + C) ≤ n
-  pub prev1 : 12 * (r .prev1 .0 * C + C) ≤ n
+  pub row0 : cellWords * (r .row0 .0 * C + C) ≤ n
+  pub row1 : cellWords * (r .row1 .0 * C + C) ≤ n
+  pub prev0 : cellWords * (r .prev0 .0 * C + C) ≤ n
+  pub prev1 : cellWords * (r .prev1 .0 * C + C) ≤ n
 
 -- what the output of a state picks, which is two columns
 pub record Picked (S : Settings) (s : List ℕ) (p : Picks) : Type 0 where

@@ -12,12 +12,13 @@ use sponge::duplex::reduced_call;
 ghost use mathlib.Core.Path.{_≡_};
 ghost use Prim.Native.Nat.{_+_, _*_, _≤_, _<_};
 ghost use lib.ListN.{length};
+ghost use Rattle.profile.specs.Profile.{cellWords};
 ghost use Rattle.settings.specs.Settings.{settings};
 ghost use Rattle.columns.specs.Columns.{work, fillColumn, copyColumn};
 
 // A column of row 0.
 pub fn fill_column(s: &mut [u64; 16], m: &mut [u64], col: usize, p: Parameters)
-    requires { ⌜ (col < p .columns) × (12 * p .columns ≤ length (now m)) ⌝ }
+    requires { ⌜ (col < p .columns) × (cellWords * p .columns ≤ length (now m)) ⌝ }
     ensures { λ _. ⌜ work (now (s .exit)) (now (m .exit)) ≡ fillColumn (settings p) col (work (now (s .entry)) (now (m .entry))) ⌝ }
 {
     let a = cell_start(Row(0), Column(p.columns - 1 - col), p.columns);
@@ -35,7 +36,7 @@ pub fn copy_column(
     col: usize,
     p: Parameters,
 )
-    requires { ⌜ (col < p .columns) × (prev0 .0 * p .columns + p .columns ≤ row0 .0 * p .columns) × (12 * (row0 .0 * p .columns + p .columns) ≤ length (now m)) ⌝ }
+    requires { ⌜ (col < p .columns) × (prev0 .0 * p .columns + p .columns ≤ row0 .0 * p .columns) × (cellWords * (row0 .0 * p .columns + p .columns) ≤ length (now m)) ⌝ }
     ensures { λ _. ⌜ work (now (s .exit)) (now (m .exit)) ≡ copyColumn (settings p) (prev0 .0) (row0 .0) col (work (now (s .entry)) (now (m .entry))) ⌝ }
 {
     duplex(s, cell(m, prev0, Column(col), p.columns));

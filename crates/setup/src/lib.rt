@@ -9,6 +9,7 @@ use setup_order::Order;
 ghost use mathlib.Core.Path.{_≡_};
 ghost use Prim.Native.Nat.{_+_, _*_, _-_, _≤_, _<_, _^_};
 ghost use lib.ListN.{length};
+ghost use Rattle.profile.specs.Profile.{cellWords};
 ghost use Rattle.settings.specs.Settings.{settings};
 ghost use Rattle.columns.specs.Bounds.{Filling};
 ghost use Rattle.columns.specs.Columns.{work};
@@ -17,7 +18,7 @@ ghost use Rattle.setup.specs.Setup.{fillRow, copyRow, setupRow, rowsWith
 
 // Row 0. Each row function answers how many reduced calls it made.
 fn fill_row(s: &mut [u64; 16], m: &mut [u64], p: Parameters) -> u64
-    requires { ⌜ 12 * p .columns ≤ length (now m) ⌝ }
+    requires { ⌜ cellWords * p .columns ≤ length (now m) ⌝ }
     ensures { λ r. ⌜ (r ≡ p .columns) × (work (now (s .exit)) (now (m .exit)) ≡ fillRow (settings p) (work (now (s .entry)) (now (m .entry)))) ⌝ }
 {
     let mut calls: u64 = 0;
@@ -32,7 +33,7 @@ fn fill_row(s: &mut [u64; 16], m: &mut [u64], p: Parameters) -> u64
 
 // Row 1 or 2.
 fn copy_row(s: &mut [u64; 16], m: &mut [u64], prev0: Row, row0: Row, p: Parameters) -> u64
-    requires { ⌜ (prev0 .0 * p .columns + p .columns ≤ row0 .0 * p .columns) × (12 * (row0 .0 * p .columns + p .columns) ≤ length (now m)) ⌝ }
+    requires { ⌜ (prev0 .0 * p .columns + p .columns ≤ row0 .0 * p .columns) × (cellWords * (row0 .0 * p .columns + p .columns) ≤ length (now m)) ⌝ }
     ensures { λ r. ⌜ (r ≡ p .columns) × (work (now (s .exit)) (now (m .exit)) ≡ copyRow (settings p) (prev0 .0) (row0 .0) (work (now (s .entry)) (now (m .entry)))) ⌝ }
 {
     let mut calls: u64 = 0;
@@ -68,7 +69,7 @@ pub struct SetUp {
 
 // Row 3 + k, with its place in the order.
 fn setup_step(s: &mut [u64; 16], m: &mut [u64], k: usize, o: Order, p: Parameters) -> u64
-    requires { ⌜ (o ≡ order k) × (3 + k ≤ 2 ^ 32) × (12 * ((3 + k) * p .columns + p .columns) ≤ length (now m)) ⌝ }
+    requires { ⌜ (o ≡ order k) × (3 + k ≤ 2 ^ 32) × (cellWords * ((3 + k) * p .columns + p .columns) ≤ length (now m)) ⌝ }
     ensures { λ r. ⌜ (r ≡ p .columns) × (work (now (s .exit)) (now (m .exit)) ≡ setupRow (settings p) (rowsWith k (order k)) (work (now (s .entry)) (now (m .entry)))) ⌝ }
 {
     let rows = Rows {
@@ -83,7 +84,7 @@ fn setup_step(s: &mut [u64; 16], m: &mut [u64], k: usize, o: Order, p: Parameter
 // The rows from 3 on, of which there are n. Row 3 is called for by itself, so that the compiler leaves a row a function of its
 // own, which is faster.
 fn setup_rows(s: &mut [u64; 16], m: &mut [u64], n: usize, p: Parameters) -> SetUp
-    requires { ⌜ (3 + n ≤ 2 ^ 32) × (12 * ((3 + n) * p .columns) ≤ length (now m)) ⌝ }
+    requires { ⌜ (3 + n ≤ 2 ^ 32) × (cellWords * ((3 + n) * p .columns) ≤ length (now m)) ⌝ }
     ensures { λ r. ⌜ (r .prev1 ≡ order n .prev1) × (r .calls ≡ n * p .columns) × (work (now (s .exit)) (now (m .exit)) ≡ setupRows (settings p) n (work (now (s .entry)) (now (m .entry)))) ⌝ }
 {
     let first = Order::first();
@@ -109,7 +110,7 @@ fn setup_rows(s: &mut [u64; 16], m: &mut [u64], n: usize, p: Parameters) -> SetU
 
 // Rows 0 to 2.
 fn first_rows(s: &mut [u64; 16], m: &mut [u64], p: Parameters) -> u64
-    requires { ⌜ 12 * (3 * p .columns) ≤ length (now m) ⌝ }
+    requires { ⌜ cellWords * (3 * p .columns) ≤ length (now m) ⌝ }
     ensures { λ r. ⌜ (r ≡ 3 * p .columns) × (work (now (s .exit)) (now (m .exit)) ≡ copyRow (settings p) 1 2 (copyRow (settings p) 0 1 (fillRow (settings p) (work (now (s .entry)) (now (m .entry)))))) ⌝ }
 {
     let first = fill_row(s, m, p);
@@ -120,7 +121,7 @@ fn first_rows(s: &mut [u64; 16], m: &mut [u64], p: Parameters) -> u64
 
 // All of Setup, over R rows and C columns.
 pub fn set_up(s: &mut [u64; 16], m: &mut [u64], p: Parameters) -> SetUp
-    requires { ⌜ (3 ≤ p .rows) × (p .rows ≤ 2 ^ 32) × (12 * (p .rows * p .columns) ≤ length (now m)) ⌝ }
+    requires { ⌜ (3 ≤ p .rows) × (p .rows ≤ 2 ^ 32) × (cellWords * (p .rows * p .columns) ≤ length (now m)) ⌝ }
     ensures { λ r. ⌜ (r .prev1 ≡ order (p .rows - 3) .prev1) × (r .calls ≡ p .rows * p .columns) × (work (now (s .exit)) (now (m .exit)) ≡ setup (settings p) (work (now (s .entry)) (now (m .entry)))) ⌝ }
 {
     let first = first_rows(s, m, p);
