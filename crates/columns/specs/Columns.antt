@@ -11,6 +11,9 @@ use Rattle.matrix.specs.Cells.{cellAt, putCell, xorCell, rotated}
 use Rattle.columns.specs.declared.Rows.{Rows}
 use Rattle.columns.specs.declared.Picks.{Picks}
 
+abbrev pub rowsOf : ℕ → ℕ → ℕ → ℕ → Rows
+rowsOf row0 row1 prev0 prev1 = record { row0 = record { 0 = row0 }; row1 = record { 0 = row1 }; prev0 = record { 0 = prev0 }; prev1 = record { 0 = prev1 } }
+
 -- what the walk works on: the sponge's state and the matrix
 pub record Work : Type 0 where
   pub state : List ℕ
@@ -64,10 +67,7 @@ pickedBy S j n s = getD (rand s) (j * S .rotation % cellWords) 0 % n
 
 -- the columns that a visit picks
 unfoldable pub picks : Settings → List ℕ → Picks
-picks S s = record {
-  col0 = record { 0 = pickedBy S 2 (S .columns) s };
-  col1 = record { 0 = pickedBy S 3 (S .columns) s };
-}
+picks S s = record { col0 = record { 0 = pickedBy S 2 (S .columns) s }; col1 = record { 0 = pickedBy S 3 (S .columns) s } }
 
 -- Wandering, a column of a visit whose picks are given: what is duplexed, what is then written, and both
 unfoldable pub visitCells : Settings → Rows → ℕ → Picks → List ℕ → List ℕ

@@ -16,11 +16,5 @@ pub record Settings : Type 0 where
 
 -- the settings of a call
 abbrev pub settings : Parameters → Settings
-settings p = record {
-  time = p .time;
-  rows = p .rows;
-  columns = p .columns;
-  rounds = reducedRounds;
-  rotation = 2;
-  addition = plain;
-}
+settings p =
+    record { time = p .time; rows = p .rows; columns = p .columns; rounds = reducedRounds; rotation = 2; addition = plain }

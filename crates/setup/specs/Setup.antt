@@ -5,7 +5,7 @@ use Rattle.settings.specs.Settings.{Settings}
 use Rattle.setup_order.specs.SetupOrder.{order}
 use Rattle.setup_order.specs.declared.Order.{Order}
 use Rattle.columns.specs.declared.Rows.{Rows}
-use Rattle.columns.specs.Columns.{Work, fillColumn, copyColumn, setupColumn}
+use Rattle.columns.specs.Columns.{rowsOf, Work, fillColumn, copyColumn, setupColumn}
 
 unfoldable pub fillRow : Settings → Work → Work
 fillRow S w = loop (fillColumn S) (S .columns) w
@@ -18,12 +18,7 @@ setupRow S r w = loop (setupColumn S r) (S .columns) w
 
 -- the rows of the step that fills row 3 + k, from the order of that row
 abbrev pub rowsWith : ℕ → Order → Rows
-rowsWith k o = record {
-  row0 = record { 0 = 3 + k };
-  row1 = record { 0 = o .row1 };
-  prev0 = record { 0 = 2 + k };
-  prev1 = record { 0 = o .prev1 };
-}
+rowsWith k o = rowsOf (3 + k) (o .row1) (2 + k) (o .prev1)
 
 -- n rows from row 3 on
 unfoldable pub setupRows : Settings → ℕ → Work → Work

@@ -17,14 +17,9 @@ moved o =
 unfoldable pub newWindow : Order → Order
 newWindow o =
     let rising = not (o .rising) in
-    record {
-      stp = cond (o .rising) (o .sqrt + 1) (o .sqrt - 1);
-      wnd = 2 * o .wnd;
-      sqrt = cond rising (o .sqrt) (2 * o .sqrt);
-      rising = rising;
-      row1 = o .row1;
-      prev1 = o .prev1;
-    }
+    let stp = cond (o .rising) (o .sqrt + 1) (o .sqrt - 1) in
+    let sqrt = cond rising (o .sqrt) (2 * o .sqrt) in
+    record { stp = stp; wnd = 2 * o .wnd; sqrt = sqrt; rising = rising; row1 = o .row1; prev1 = o .prev1 }
 
 -- from a row to the next: where row1 becomes 0, a new window begins
 unfoldable pub nextOrder : Order → Order

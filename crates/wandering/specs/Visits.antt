@@ -5,7 +5,7 @@ use Rattle.lists.specs.Loop.{loop}
 use Rattle.settings.specs.Settings.{Settings}
 use Rattle.columns.specs.declared.Rows.{Rows}
 use Rattle.columns.specs.declared.Picks.{Picks}
-use Rattle.columns.specs.Columns.{Work, pickedBy, picks, visitColumn}
+use Rattle.columns.specs.Columns.{rowsOf, Work, pickedBy, picks, visitColumn}
 
 -- what stands between visits: the work, and the rows of the visit before
 pub record Walk : Type 0 where
@@ -18,12 +18,7 @@ walk w prev0 prev1 = record { done = w; prev0 = prev0; prev1 = prev1 }
 
 -- the rows that the next visit picks from the output, with those of the visit before
 unfoldable pub pickedRows : Settings → Walk → Rows
-pickedRows S w = record {
-  row0 = record { 0 = pickedBy S 0 (S .rows) (w .done .state) };
-  row1 = record { 0 = pickedBy S 1 (S .rows) (w .done .state) };
-  prev0 = record { 0 = w .prev0 };
-  prev1 = record { 0 = w .prev1 };
-}
+pickedRows S w = rowsOf (pickedBy S 0 (S .rows) (w .done .state)) (pickedBy S 1 (S .rows) (w .done .state)) (w .prev0) (w .prev1)
 
 -- n columns of a visit, each with the picks of the output before it
 unfoldable pub visitColumns : Settings → Rows → ℕ → Work → Work
