@@ -7,7 +7,6 @@ use Rattle.settings.specs.Settings.{settings}
 use Rattle.settings.specs.Sizes.{matrixWords, recordWords}
 use Rattle.settings.specs.declared.Parameters.{Parameters}
 use Rattle.settings.specs.declared.Lengths.{Lengths}
-use Rattle.refusals.specs.Limits.{maxKey, maxPassword, minSalt, maxSalt, maxTime, minRows, maxRows, maxColumns}
 
 -- a check has a number, and turns a call down where a value is not least to most, or is below the least
 pub data Check : Type 0 where
@@ -33,10 +32,14 @@ first (c ∷ cs) = cond (refuses c) (numberOf c) (first cs)
 
 -- ---- the operations: the cost question, the plain derivation and the check, the recorded derivation, the walk question
 
+-- R alone is what the walk program asks
+abbrev pub rowsCheck : ℕ → Check
+rowsCheck R = range 5 3 16384 R
+
 unfoldable pub costChecks : Lengths → Parameters → List Check
 costChecks l p =
-    range 1 1 maxKey (l .key) ∷ range 2 0 maxPassword (l .password) ∷ range 3 minSalt maxSalt (l .salt)
-    ∷ range 4 1 maxTime (p .time) ∷ range 5 minRows maxRows (p .rows) ∷ range 6 1 maxColumns (p .columns) ∷ []
+    range 1 1 1024 (l .key) ∷ range 2 0 1024 (l .password) ∷ range 3 8 64 (l .salt)
+    ∷ range 4 1 255 (p .time) ∷ rowsCheck (p .rows) ∷ range 6 1 256 (p .columns) ∷ []
 
 -- the same and the words of the lent matrix
 unfoldable pub plainChecks : Lengths → Parameters → ℕ → List Check
@@ -45,10 +48,6 @@ plainChecks l p matrix = costChecks l p ++ (atLeast 7 (matrixWords (settings p))
 -- the same and the words of the lent record
 unfoldable pub recordedChecks : Lengths → Parameters → ℕ → ℕ → List Check
 recordedChecks l p matrix visited = plainChecks l p matrix ++ (atLeast 8 (recordWords (settings p)) visited ∷ [])
-
--- R alone is what the walk program asks
-abbrev pub rowsCheck : ℕ → Check
-rowsCheck R = range 5 minRows maxRows R
 
 unfoldable pub walkChecks : ℕ → ℕ → List Check
 walkChecks R row0 = rowsCheck R ∷ range 9 3 (R - 1) row0 ∷ []

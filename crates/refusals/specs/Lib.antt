@@ -1,3 +1,2 @@
 -- When a call is turned down.
 pub mod Checks
-pub mod Limits
