@@ -8,29 +8,17 @@ use Rattle.derivation.proofs.Answering.{answered-yes, answered-no, cost-yes, co
 use Rattle.checking.proofs.check.Statement.{statement}
 use Rattle.checking.proofs.check.Tie as tie
 
-returns : tie.Need-returns
-returns c =
-    let e = c .before .before .plain-refusal .ensures in
-    record {
-      answer = cost-no _ _ e (λ z. c .before .if1 .taken (e ∙ z)) (c .refused .ensures);
-      same-is = answered-no _ _ (λ z. c .before .if1 .taken (e ∙ z)) refl;
-      matrix-after = answered-no _ _ (λ z. c .before .if1 .taken (e ∙ z)) refl;
-    }
-
-check-accepted-requires : tie.Need-check-accepted-requires
+pub check-spec : {M : Type 1} → statement M
 unfolding plainChecks costChecks
-check-accepted-requires c κs = accepted _ (omega arith) (sym (c .before .before .plain-refusal .ensures) ∙ c .before .if1 .left)
-
-returns-2 : tie.Need-returns-2
-returns-2 c =
+check-spec =
+    tie.close
+    (tie.spec (omega arith) (omega arith)
+    (λ c.
+    let e = c .before .before .plain-refusal .ensures in
+    let h = c .before .if1 .taken in
+    record { answer = cost-no _ _ e h (c .refused .ensures); same-is = answered-no _ _ e h refl; matrix-after = answered-no _ _ e h refl })
+    (λ c κs. accepted _ (omega arith) (sym (c .before .before .plain-refusal .ensures) ∙ c .before .if1 .left)) (omega arith)
+    (λ c.
     let none = sym (c .before .before .before .before .before .plain-refusal .ensures) ∙ c .before .before .before .before .if1 .left in
     let d = c .before .before .check-accepted .ensures in
-    record {
-      answer = cost-yes _ _ none (d .0);
-      same-is = answered-yes _ _ none (ap flag (d .1));
-      matrix-after = answered-yes _ _ none (d .2);
-    }
-
-pub check-spec : {M : Type 1} → statement M
-check-spec =
-    tie.close (tie.spec (omega arith) (omega arith) returns check-accepted-requires (omega arith) returns-2)
+    record { answer = cost-yes _ _ none (d .0); same-is = answered-yes _ _ none (ap flag (d .1)); matrix-after = answered-yes _ _ none (d .2) }))

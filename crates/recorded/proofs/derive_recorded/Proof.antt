@@ -7,23 +7,23 @@ use Rattle.derivation.proofs.Answering.{answered-yes, answered-no, cost-yes, co
 use Rattle.recorded.proofs.derive_recorded.Statement.{statement}
 use Rattle.recorded.proofs.derive_recorded.Tie as tie
 
-returns : tie.Need-returns
-returns c =
-    let e = c .before .before .recorded-refusal .ensures in
-    record {
-      answer = cost-no _ _ e (λ z. c .before .if1 .taken (e ∙ z)) (c .refused .ensures);
-      state-is = answered-no _ _ (λ z. c .before .if1 .taken (e ∙ z)) refl;
-      key-after = answered-no _ _ (λ z. c .before .if1 .taken (e ∙ z)) refl;
-      matrix-after = answered-no _ _ (λ z. c .before .if1 .taken (e ∙ z)) refl;
-      visited-after = answered-no _ _ (λ z. c .before .if1 .taken (e ∙ z)) refl;
-    }
-
-record-accepted-requires : tie.Need-record-accepted-requires
+pub derive-recorded-spec : {M : Type 1} → statement M
 unfolding recordedChecks plainChecks costChecks
-record-accepted-requires c κs = accepted _ (omega arith) (sym (c .before .before .before .before .recorded-refusal .ensures) ∙ c .before .before .before .if1 .left)
-
-returns-2 : tie.Need-returns-2
-returns-2 c =
+derive-recorded-spec =
+    tie.close
+    (tie.spec (omega arith) (omega arith)
+    (λ c.
+    let e = c .before .before .recorded-refusal .ensures in
+    let h = c .before .if1 .taken in
+    record {
+      answer = cost-no _ _ e h (c .refused .ensures);
+      state-is = answered-no _ _ e h refl;
+      key-after = answered-no _ _ e h refl;
+      matrix-after = answered-no _ _ e h refl;
+      visited-after = answered-no _ _ e h refl;
+    })
+    (λ c κs. accepted _ (omega arith) (sym (c .before .before .before .before .recorded-refusal .ensures) ∙ c .before .before .before .if1 .left)) (omega arith) (omega arith) (omega arith)
+    (λ c.
     let none = sym (c .before .before .before .before .before .before .before .before .before .before .before .recorded-refusal .ensures) ∙ c .before .before .before .before .before .before .before .before .before .before .if1 .left in
     let d = c .before .before .before .before .before .before .record-accepted .ensures in
     record {
@@ -32,8 +32,4 @@ returns-2 c =
       key-after = answered-yes _ _ none (d .2);
       matrix-after = answered-yes _ _ none (d .3);
       visited-after = answered-yes _ _ none (d .4);
-    }
-
-pub derive-recorded-spec : {M : Type 1} → statement M
-derive-recorded-spec =
-    tie.close (tie.spec (omega arith) (omega arith) returns record-accepted-requires (omega arith) (omega arith) (omega arith) returns-2)
+    }))
