@@ -1,6 +1,4 @@
 -- Where rows lie, and what a column keeps of a comparison of two works.
 pub mod RowLaws
 pub mod View
-pub mod CellSteps
 pub mod ColumnSteps
-pub mod RowLoop

@@ -23,9 +23,10 @@ pub answered-yes : {A : Type 0} {n : ℕ} (a b : A) {c : A} → n ≡ 0 → c �
 unfolding answered
 answered-yes {n = n} a b h e = e ∙ sym (ap (λ (t : Bool). cond t a b) (eq-eqb n 0 h))
 
-pub answered-no : {A : Type 0} {n : ℕ} (a b : A) {c : A} → (n ≡ 0 → ⊥) → c ≡ b → c ≡ answered n a b
+-- the code's number is that of the refusal
+pub answered-no : {A : Type 0} {n number : ℕ} (a b : A) {c : A} → number ≡ n → (number ≡ 0 → ⊥) → c ≡ b → c ≡ answered n a b
 unfolding answered
-answered-no {n = n} a b h e = e ∙ sym (ap (λ (t : Bool). cond t a b) (ne-eqb n 0 h))
+answered-no {n = n} a b is h e = e ∙ sym (ap (λ (t : Bool). cond t a b) (ne-eqb n 0 (λ z. h (is ∙ z))))
 
 pub answered-is : {A : Type 0} {n : ℕ} (a b : A) {c : A} → n ≡ 0 → c ≡ answered n a b → c ≡ a
 answered-is a b h e = e ∙ sym (answered-yes a b h refl)
@@ -33,9 +34,9 @@ answered-is a b h e = e ∙ sym (answered-yes a b h refl)
 -- ---- the costs
 
 module _ (l : Lengths) (p : Parameters) where
-  pub cost-no : {n number : ℕ} {r : Costs} → number ≡ n → (n ≡ 0 → ⊥) → r ≡ noCosts number → r ≡ costAnswer n l p
+  pub cost-no : {n number : ℕ} {r : Costs} → number ≡ n → (number ≡ 0 → ⊥) → r ≡ noCosts number → r ≡ costAnswer n l p
   unfolding costAnswer
-  cost-no e h f = answered-no _ _ h (f ∙ ap noCosts e)
+  cost-no e h f = answered-no _ _ e h (f ∙ ap noCosts e)
 
   pub cost-yes : {n : ℕ} {r : Costs} → n ≡ 0 → r ≡ costs l p → r ≡ costAnswer n l p
   unfolding costAnswer

@@ -1,3 +1,2 @@
 -- The laws of Setup.
-pub mod RowBounds
 pub mod SetupKeeps

@@ -1,20 +1,42 @@
--- Setup keeps the comparison of the cells that it has written: before it that is the state alone, so that what the matrix held drops
--- out, and after it every cell. Assumes nothing.
-use mathlib.Core.Path.{_≡_, refl, ap, _∙_, subst}
+-- Where Setup's rows lie, in a form that is linear in row · C. Setup keeps the comparison of the cells that it has written: before it
+-- that is the state alone, so that what the matrix held drops out, and after it every cell. Assumes nothing.
+use mathlib.Core.Path.{_≡_, refl, sym, ap, _∙_, subst}
 use mathlib.Core.Logic.{_↔_}
 use Prim.Native.Nat.{ℕ, suc, _+_, _-_, _*_, _≤_, _<_}
-use native.Mathlib.Nat.{suc-mul, add-suc}
+use native.Mathlib.Nat.{suc-mul, add-suc, add-mul}
 use native.Mathlib.Decide.{decLt}
 use native.Mathlib.Omega.{arith}
 use Rattle.lists.specs.Loop.{loop}
 use Rattle.mixer.specs.Word.{Undoes}
 use Rattle.settings.specs.Settings.{Settings}
+use Rattle.settings.specs.declared.Parameters.{Parameters}
 use Rattle.setup_order.specs.SetupOrder.{order}
+use Rattle.setup_order.specs.declared.Order.{Order}
+use Rattle.setup_order.proofs.Windows.{row1-lt, prev1-lt}
+use Rattle.columns.specs.Bounds.{Filling}
 use Rattle.columns.specs.Columns.{Work, fillColumn, copyColumn, setupColumn}
+use Rattle.columns.proofs.RowLaws.{row-before}
 use Rattle.columns.proofs.View.{Below, Keeps, keeps-same, keeps-then, keeps-loop}
 use Rattle.columns.proofs.ColumnSteps.{Filled, fill-column-keeps, copy-column-keeps, setup-column-keeps}
 use Rattle.setup.specs.Setup.{fillRow, copyRow, setupRow, rowsWith, setupRows, setup}
-use Rattle.setup.proofs.RowBounds.{row-before, filling}
+
+-- the first three rows and the others
+pub rows-split : (p : Parameters) → 3 ≤ p .rows
+    → (p .rows * p .columns ≡ 3 * p .columns + (p .rows - 3) * p .columns) × ((3 + (p .rows - 3)) * p .columns ≡ p .rows * p .columns)
+rows-split p h =
+    let whole : 3 + (p .rows - 3) ≡ p .rows = omega arith in
+    let e = ap (λ (n : ℕ). n * p .columns) whole in
+    (sym e ∙ add-mul 3 (p .rows - 3) (p .columns), e)
+
+pub filling : (k C n : ℕ) (o : Order) → o ≡ order k → 12 * ((3 + k) * C + C) ≤ n → Filling C (rowsWith k o) n
+filling k C n o e room =
+    rw e
+    (record {
+      row0 = room;
+      row1 = row-before _ (3 + k) C (row1-lt k);
+      prev0 = row-before (2 + k) (3 + k) C (omega arith);
+      prev1 = row-before _ (3 + k) C (prev1-lt k);
+    })
 
 module _ (S : Settings) (u : Undoes (S .addition)) (n : ℕ) where
   abbrev C : ℕ

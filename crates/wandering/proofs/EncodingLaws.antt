@@ -13,7 +13,7 @@ use Rattle.columns.specs.declared.Picks.{Picks}
 use Rattle.wandering.specs.Visits.{Walk, Visit, wander, columnPicks, visitColumns, visitData, visits}
 use Rattle.wandering.specs.Encoding.{encodePicks, encodeVisit, encode}
 
-length-picks : (ps : List Picks) → length (encodePicks ps) ≡ 2 * length ps
+pub length-picks : (ps : List Picks) → length (encodePicks ps) ≡ 2 * length ps
 unfolding encodePicks
 length-picks [] = refl
 length-picks (p ∷ ps) = omega (arith, length-picks ps)
@@ -65,7 +65,7 @@ encode-inj C (v ∷ vs) (w ∷ ws) hv hw e =
 
 -- ---- the visits of a walk are such
 
-as-many-picks : (S : Settings) (r : Rows) (n : ℕ) (w : Work) → length (columnPicks S r n w) ≡ n
+pub as-many-picks : (S : Settings) (r : Rows) (n : ℕ) (w : Work) → length (columnPicks S r n w) ≡ n
 unfolding columnPicks
 as-many-picks S r zero w = refl
 as-many-picks S r (suc n) w =

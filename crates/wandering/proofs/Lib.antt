@@ -1,4 +1,4 @@
 -- The laws of the visits, of their record and of its encoding.
-pub mod Recording
 pub mod EncodingLaws
+pub mod Recording
 pub mod VisitsUndone

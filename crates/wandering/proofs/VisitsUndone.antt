@@ -1,15 +1,13 @@
 -- A visit and all visits are undone with their picks known: the state after tells the output, so both XORs are undone, also on one
 -- cell; then the duplexed sum is known, and with it the state before. Assumes nothing.
 use mathlib.Core.Path.{_≡_, refl, sym, ap, _∙_, subst}
-use Prim.Native.Nat.{ℕ, suc, _*_, _<_}
+use Prim.Native.Nat.{ℕ, _*_, _<_}
 use native.Mathlib.Nat.{mod-lt}
 use native.Mathlib.Omega.{arith}
-use mathlib.Core.List.{[], _∷_, _++_}
-use Rattle.lists.specs.Loop.{loop}
 use Rattle.lists.proofs.Traces.{Undone, loop-good, loop-met, loop-forth, loop-back}
 use Rattle.mixer.specs.Word.{Undoes}
 use Rattle.settings.specs.Settings.{Settings}
-use Rattle.columns.specs.Columns.{Work, pickedBy, picks, visitColumn}
+use Rattle.columns.specs.Columns.{Work, picks, visitColumn}
 use Rattle.columns.specs.declared.Rows.{Rows}
 use Rattle.columns.specs.declared.Picks.{Picks}
 use Rattle.columns.proofs.View.{Same, Sound, Below}
@@ -57,31 +55,21 @@ module _ (S : Settings) (u : Undoes (S .addition)) where
             (subst (λ (p : Picks). Same (Below (R * C)) (visitColumn S r k (picks S (v .state)) v) (visitColumn S r k p w)) (sym e) s);
       }
 
-  no-picks : (r : Rows) (w : Work) → columnPicks S r 0 w ≡ []
-  unfolding columnPicks
-  no-picks r w = refl
-
-  more-picks : (r : Rows) (n : ℕ) (w : Work)
-      → columnPicks S r (suc n) w
-      ≡ columnPicks S r n w ++ (picks S (loop (step r) n w .state) ∷ [])
-  unfolding columnPicks visitColumns
-  more-picks r n w = refl
-
   module _ (r : Rows) (below : RowsBelow R r) where
     columns-sound : (w : Work) → Sound (R * C) (Below (R * C)) w → Sound (R * C) (Below (R * C)) (visitColumns S r C w)
-    unfolding visitColumns
-    columns-sound = loop-good (columns-undone r below) (columnPicks S r) (no-picks r) (more-picks r) C (omega arith)
+    unfolding visitColumns columnPicks
+    columns-sound = loop-good (columns-undone r below) (columnPicks S r) (λ w. refl) (λ n w. refl) C (omega arith)
 
     module _ (v w : Work) (hv : Sound (R * C) (Below (R * C)) v) (hw : Sound (R * C) (Below (R * C)) w) where
-      pub columns-forth : Same (Below (R * C)) v w
+      columns-forth : Same (Below (R * C)) v w
           → Same (Below (R * C)) (visitColumns S r C v) (visitColumns S r C w) × (columnPicks S r C v ≡ columnPicks S r C w)
-      unfolding visitColumns
-      columns-forth = loop-forth (columns-undone r below) (columnPicks S r) (no-picks r) (more-picks r) C (omega arith) v w hv hw tt
+      unfolding visitColumns columnPicks
+      columns-forth = loop-forth (columns-undone r below) (columnPicks S r) (λ w. refl) (λ n w. refl) C (omega arith) v w hv hw tt
 
-      pub columns-back : columnPicks S r C v ≡ columnPicks S r C w
+      columns-back : columnPicks S r C v ≡ columnPicks S r C w
           → Same (Below (R * C)) (visitColumns S r C v) (visitColumns S r C w) → Same (Below (R * C)) v w
-      unfolding visitColumns
-      columns-back = loop-back (columns-undone r below) (columnPicks S r) (no-picks r) (more-picks r) C (omega arith) v w hv hw tt
+      unfolding visitColumns columnPicks
+      columns-back = loop-back (columns-undone r below) (columnPicks S r) (λ w. refl) (λ n w. refl) C (omega arith) v w hv hw tt
 
   -- ---- a visit
 
@@ -92,22 +80,11 @@ module _ (S : Settings) (u : Undoes (S .addition)) where
   -- equal states pick equal rows, and equal data tell them
   same-rows : (v w : Walk) → v .done .state ≡ w .done .state → SameRows v w → pickedRows S v ≡ pickedRows S w
   unfolding pickedRows
-  same-rows v w e m = λ i. record {
-    row0 = record { 0 = pickedBy S 0 R (e i) };
-    row1 = record { 0 = pickedBy S 1 R (e i) };
-    prev0 = record { 0 = m .0 i };
-    prev1 = record { 0 = m .1 i };
-  }
+  same-rows v w e m = cc
 
-  told-rows : (v w : Walk) → visitData S v ≡ visitData S w → SameRows v w
-      → pickedRows S v ≡ pickedRows S w
+  told-rows : (v w : Walk) → visitData S v ≡ visitData S w → SameRows v w → pickedRows S v ≡ pickedRows S w
   unfolding pickedRows visitData
-  told-rows v w e m = λ i. record {
-    row0 = record { 0 = e i .row0 };
-    row1 = record { 0 = e i .row1 };
-    prev0 = record { 0 = m .0 i };
-    prev1 = record { 0 = m .1 i };
-  }
+  told-rows v w e m = λ i. record { row0 = record { 0 = e i .row0 }; row1 = record { 0 = e i .row1 }; prev0 = record { 0 = m .0 i }; prev1 = record { 0 = m .1 i } }
 
   told-picks : (v w : Walk) → visitData S v ≡ visitData S w
       → columnPicks S (pickedRows S v) C (v .done) ≡ columnPicks S (pickedRows S w) C (w .done)
@@ -118,18 +95,14 @@ module _ (S : Settings) (u : Undoes (S .addition)) where
   unfolding visit
   visit-sound w h =
       let below = rows-below w h in
-      record {
-        done = columns-sound (pickedRows S w) below (w .done) (h .done);
-        prev0 = below .row0;
-        prev1 = below .row1;
-      }
+      record { done = columns-sound (pickedRows S w) below (w .done) (h .done); prev0 = below .row0; prev1 = below .row1 }
 
   visit-met : (v w : Walk) → SameRows v w → visitData S v ≡ visitData S w → SameRows (visit S v) (visit S w)
   unfolding visit visitData
   visit-met v w m e = (λ i. e i .row0, λ i. e i .row1)
 
   module _ (v w : Walk) (hv : SoundWalk R C v) (hw : SoundWalk R C w) (m : SameRows v w) where
-    pub visit-forth : SameDone R C v w → SameDone R C (visit S v) (visit S w) × (visitData S v ≡ visitData S w)
+    visit-forth : SameDone R C v w → SameDone R C (visit S v) (visit S w) × (visitData S v ≡ visitData S w)
     unfolding visit visitData
     visit-forth s =
         let r = pickedRows S v in
@@ -141,7 +114,7 @@ module _ (S : Settings) (u : Undoes (S .addition)) where
           λ i. record { row0 = e i .row0 .0; row1 = e i .row1 .0; columns = p i },
         )
 
-    pub visit-back : visitData S v ≡ visitData S w → SameDone R C (visit S v) (visit S w) → SameDone R C v w
+    visit-back : visitData S v ≡ visitData S w → SameDone R C (visit S v) (visit S w) → SameDone R C v w
     unfolding visit
     visit-back d s =
         let r = pickedRows S v in
@@ -155,31 +128,19 @@ module _ (S : Settings) (u : Undoes (S .addition)) where
 
   -- ---- all visits
 
-  no-visits : (w : Walk) → visits S 0 w ≡ []
-  unfolding visits
-  no-visits w = refl
-
-  more-visits : (n : ℕ) (w : Walk)
-      → visits S (suc n) w
-      ≡ visits S n w ++ (visitData S (loop (λ k v. visit S v) n w) ∷ [])
-  unfolding visits wander
-  more-visits n w = refl
-
   pub wander-sound : (n : ℕ) (w : Walk) → SoundWalk R C w → SoundWalk R C (wander S n w)
-  unfolding wander
-  wander-sound n w h = loop-good (visit-undone n) (visits S) no-visits more-visits n (omega arith) w h
+  unfolding wander visits
+  wander-sound n = loop-good (visit-undone n) (visits S) (λ w. refl) (λ k w. refl) n (omega arith)
 
   pub wander-rows : (n : ℕ) (v w : Walk) → SameRows v w → visits S n v ≡ visits S n w → SameRows (wander S n v) (wander S n w)
-  unfolding wander
-  wander-rows n v w rows e = loop-met (visit-undone n) (visits S) no-visits more-visits n v w rows e
+  unfolding wander visits
+  wander-rows n = loop-met (visit-undone n) (visits S) (λ w. refl) (λ k w. refl) n
 
   module _ (n : ℕ) (v w : Walk) (hv : SoundWalk R C v) (hw : SoundWalk R C w) (rows : SameRows v w) where
-    pub wander-forth : SameDone R C v w
-        → SameDone R C (wander S n v) (wander S n w) × (visits S n v ≡ visits S n w)
-    unfolding wander
-    wander-forth s = loop-forth (visit-undone n) (visits S) no-visits more-visits n (omega arith) v w hv hw rows s
+    pub wander-forth : SameDone R C v w → SameDone R C (wander S n v) (wander S n w) × (visits S n v ≡ visits S n w)
+    unfolding wander visits
+    wander-forth = loop-forth (visit-undone n) (visits S) (λ w. refl) (λ k w. refl) n (omega arith) v w hv hw rows
 
-    pub wander-back : visits S n v ≡ visits S n w
-        → SameDone R C (wander S n v) (wander S n w) → SameDone R C v w
-    unfolding wander
-    wander-back e s = loop-back (visit-undone n) (visits S) no-visits more-visits n (omega arith) v w hv hw rows e s
+    pub wander-back : visits S n v ≡ visits S n w → SameDone R C (wander S n v) (wander S n w) → SameDone R C v w
+    unfolding wander visits
+    wander-back = loop-back (visit-undone n) (visits S) (λ w. refl) (λ k w. refl) n (omega arith) v w hv hw rows

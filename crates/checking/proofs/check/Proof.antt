@@ -8,10 +8,11 @@ use Rattle.checking.proofs.check.Tie as tie
 returns : tie.Need-returns
 returns c =
     let e = c .before .before .plain-refusal .ensures in
+    let h = c .before .if1 .taken in
     record {
-      answer = cost-no _ _ e (λ z. c .before .if1 .taken (e ∙ z)) (c .refused .ensures);
-      same-is = answered-no _ _ (λ z. c .before .if1 .taken (e ∙ z)) refl;
-      matrix-after = answered-no _ _ (λ z. c .before .if1 .taken (e ∙ z)) refl;
+      answer = cost-no _ _ e h (c .refused .ensures);
+      same-is = answered-no _ _ e h refl;
+      matrix-after = answered-no _ _ e h refl;
     }
 
 pub check-spec : {M : Type 1} → statement M

@@ -4,10 +4,6 @@ use Rattle.derivation.specs.Answers.{noCosts}
 use Rattle.costs.proofs.refused.Statement.{statement}
 use Rattle.costs.proofs.refused.Tie as tie
 
-returns : tie.Need-returns
-unfolding noCosts
-returns c = refl
-
 pub refused-spec : {M : Type 1} → statement M
-refused-spec =
-    tie.close (tie.spec returns)
+unfolding noCosts
+refused-spec = tie.close (tie.spec (λ c. refl))

@@ -8,12 +8,13 @@ use Rattle.recorded.proofs.derive_recorded.Tie as tie
 returns : tie.Need-returns
 returns c =
     let e = c .before .before .recorded-refusal .ensures in
+    let h = c .before .if1 .taken in
     record {
-      answer = cost-no _ _ e (λ z. c .before .if1 .taken (e ∙ z)) (c .refused .ensures);
-      state-is = answered-no _ _ (λ z. c .before .if1 .taken (e ∙ z)) refl;
-      key-after = answered-no _ _ (λ z. c .before .if1 .taken (e ∙ z)) refl;
-      matrix-after = answered-no _ _ (λ z. c .before .if1 .taken (e ∙ z)) refl;
-      visited-after = answered-no _ _ (λ z. c .before .if1 .taken (e ∙ z)) refl;
+      answer = cost-no _ _ e h (c .refused .ensures);
+      state-is = answered-no _ _ e h refl;
+      key-after = answered-no _ _ e h refl;
+      matrix-after = answered-no _ _ e h refl;
+      visited-after = answered-no _ _ e h refl;
     }
 
 pub derive-recorded-spec : {M : Type 1} → statement M

@@ -3,9 +3,6 @@ use native.Mathlib.Omega.{arith}
 use Rattle.setup.proofs.first_rows.Statement.{statement}
 use Rattle.setup.proofs.first_rows.Tie as tie
 
-returns : tie.Need-returns
-returns c = (omega arith, cc)
-
 pub first-rows-spec : {M : Type 1} → statement M
 first-rows-spec =
-    tie.close (tie.spec (omega arith) (omega arith) (omega arith) (omega arith) (omega arith) (omega arith) returns)
+    tie.close (tie.spec (omega arith) (omega arith) (omega arith) (omega arith) (omega arith) (omega arith) (λ c. (omega arith, cc)))

@@ -1,14 +1,14 @@
 -- `wander` meets its contract. The loop's invariant: where what stands before it is what one visit leaves, it is what k visits leave, and the record
--- goes on at the next visit's place. Assumes nothing.
-use mathlib.Core.Path.{_≡_, refl, sym, subst, _∙_}
-use Prim.Native.Nat.{ℕ, _≤_, _<_, _-_, _+_, _*_, _^_}
+-- goes on at the next visit's place; the words of one visit are far from a word's end. Assumes nothing.
+use mathlib.Core.Path.{_≡_, refl, sym, _∙_}
+use Prim.Native.Nat.{ℕ, _≤_, _<_, _-_, _*_, _^_}
 use native.Mathlib.Omega.{arith}
 use native.Mathlib.Nat.{zero-mul, zero-add}
 use mathlib.Core.List.{List}
 use lib.ListN.{length}
-use denote.Ref.{now}
 use Rattle.settings.specs.Settings.{settings}
 use Rattle.settings.specs.Sizes.{visitWords}
+use Rattle.settings.specs.declared.Parameters.{Parameters}
 use Rattle.columns.specs.Columns.{work}
 use Rattle.columns.proofs.RowLaws.{row-more, row-before}
 use Rattle.wandering.specs.Visits.{Walk, walk}
@@ -17,62 +17,28 @@ use Rattle.wandering.proofs.Recording.{wandered-none, wandered-more}
 use Rattle.wandering.proofs.wander.Statement.{statement}
 use Rattle.wandering.proofs.wander.Tie as tie
 
+-- where there is a visit, its words are within the bound of them all
+one-visit : (n : ℕ) (p : Parameters) → 0 < n → n * visitWords (settings p) < 2 ^ 63 → visitWords (settings p) < 2 ^ 63
+one-visit n p h f = omega (arith, row-before 0 n (visitWords (settings p)) h)
+
 abbrev Inv-loop : tie.InvT-loop
-Inv-loop s₀ m₀ n p record₀ row0₀ row1₀ calls₀ at₀ k₀ s m «record» row0 row1 calls at k = (k ≤ n) × (row0 < p .rows) × (row1 < p .rows) × (calls ≡ k * p .columns) × (at ≡ k * visitWords (settings p)) × (length m ≡ length m₀) × (length «record» ≡ length record₀) × ((w : Walk) (xs : List ℕ) → Wandered (settings p) 1 w (walk (work s₀ m₀) row0₀ row1₀) xs record₀ calls₀ → Wandered (settings p) k w (walk (work s m) row0 row1) xs «record» calls)
+Inv-loop s₀ m₀ n p record₀ row0₀ row1₀ calls₀ at₀ k₀ s m «record» row0 row1 calls at k = (k ≤ n) × (row0 < p .rows) × (row1 < p .rows) × (calls ≡ k * p .columns) × (at ≡ k * visitWords (settings p)) × (length m ≡ length m₀) × (length «record» ≡ length record₀) × (visitWords (settings p) < 2 ^ 63) × ((w : Walk) (xs : List ℕ) → Wandered (settings p) 1 w (walk (work s₀ m₀) row0₀ row1₀) xs record₀ calls₀ → Wandered (settings p) k w (walk (work s m) row0 row1) xs «record» calls)
 
 abbrev μ-loop : tie.MeasureT-loop
 μ-loop s₀ m₀ n p record₀ row0₀ row1₀ calls₀ at₀ k₀ s m «record» row0 row1 calls at k = n - k
 
-returns : tie.Need-returns Inv-loop μ-loop
-returns c =
-    let start = c .before .before .before in
-    let a = start .args in
-    let w = walk (work (now (a .s)) (now (a .m))) (a .prev0 .0) (a .prev1 .0) in
-    subst (λ (k : ℕ). Wandered (settings (a .p)) k w w (now (a .«record»)) (now (a .«record»)) 0) (sym (c .if1 .taken))
-    (wandered-none (settings (a .p)) w (start .pre .0 .prev0-lt) (start .pre .0 .prev1-lt) (now (a .«record»)))
-
-visit-requires : tie.Need-visit-requires Inv-loop μ-loop
-visit-requires c κs =
-    let start = c .before .before .before .before .before .before in
-    let a = start .args in
-    (start .pre .0, omega (arith, c .before .before .before .if1 .left, row-before 0 (a .n) (visitWords (settings (a .p))) (omega arith)))
-
--- where there is a visit, its words are within the bound of them all
-first-at : (n C : ℕ) → 0 < n → n * (2 + 2 * C) < 2 ^ 63 → 2 + 2 * C < 2 ^ 63
-first-at n C h f = omega (arith, row-before 0 n (2 + 2 * C) h)
-
-loop-holds : tie.Need-loop-holds Inv-loop μ-loop
-loop-holds c =
-    let first = c .before .before .before .before .before .visit .ensures in
-    (omega arith, first .1, first .2, omega (arith, first .0), omega arith, refl, refl, λ w xs d. d)
-
 visit-requires-2 : tie.Need-visit-requires-2 Inv-loop μ-loop
 visit-requires-2 c κs =
     let v = c .before .before .before .before .loop in
-    let start = c .before .before .before .before .before .before .before .before .before .before .before .before .before .before .before .before .before in
-    let a = start .args in (
+    let start = c .before .before .before .before .before .before .before .before .before .before .before .before .before .before .before .before .before in (
       record {
         columns-pos = start .pre .0 .columns-pos;
         prev0-lt = v .inv .1;
         prev1-lt = v .inv .2;
         room = omega (arith, v .inv .5, c .before .before .before .before .before .before .before .before .before .before .visit .kept .1 .0, start .pre .0 .room);
       },
-      omega (arith, v .inv .4, start .pre .1, row-before (v .k) (a .n) (visitWords (settings (a .p))) (omega (arith, c .before .before .before .loop-test .taken))),
+      omega (arith, v .inv .4, start .pre .1, row-before (v .k) (start .args .n) (visitWords (settings (start .args .p))) (c .before .before .before .loop-test .taken)),
     )
-
-add-calls : tie.Need-add-calls Inv-loop μ-loop
-add-calls c =
-    let v = c .before .before .before .before .before .before .before .before .before .before .loop in
-    let start = c .before .before .before .before .before .before .before .before .before .before .before .before .before .before .before .before .before .before .before .before .before .before .before in
-    let a = start .args in
-    omega (arith, v .inv .3, c .before .before .before .before .before .visit2 .ensures .0, start .pre .2, row-before (v .k) (a .n) (a .p .columns) (omega (arith, c .before .before .before .before .before .before .before .before .before .loop-test .taken)))
-
-add-at-3 : tie.Need-add-at-3 Inv-loop μ-loop
-add-at-3 c =
-    let v = c .before .before .before .before .before .before .before .before .before .before .before .loop in
-    let start = c .before .before .before .before .before .before .before .before .before .before .before .before .before .before .before .before .before .before .before .before .before .before .before .before in
-    let a = start .args in
-    omega (arith, v .inv .4, start .pre .1, row-before (v .k) (a .n) (visitWords (settings (a .p))) (omega (arith, c .before .before .before .before .before .before .before .before .before .before .loop-test .taken)))
 
 loop-again : tie.Need-loop-again Inv-loop μ-loop
 loop-again c =
@@ -86,40 +52,49 @@ loop-again c =
       omega (arith, v .inv .4, row-more (v .k) (visitWords (settings (a .p)))),
       call .kept .1 .0 ∙ v .inv .5,
       call .kept .1 .1 .1 .1 .1 .0 ∙ v .inv .6,
-      λ w xs d. wandered-more (settings (a .p)) w (v .inv .7 w xs d) (v .inv .4) (call .ensures .0) (call .ensures .1) (call .ensures .2) (call .ensures .3) (call .ensures .4),
+      v .inv .7,
+      λ w xs d. wandered-more _ _ (v .inv .8 w xs d) (v .inv .4) (call .ensures .0) (call .ensures .1) (call .ensures .2) (call .ensures .3) (call .ensures .4),
     )
 
 returns-2 : tie.Need-returns-2 Inv-loop μ-loop
 returns-2 c =
     let start = c .before .before .before .before .before .before .before .before .before .before .before .before .before .before in
-    let a = start .args in
     let v = c .before .loop in
     let first = c .before .before .before .before .before .before .before .visit .ensures in
-    let at-end : v .k ≡ a .n = omega arith in
-    let w = walk (work (now (a .s)) (now (a .m))) (a .prev0 .0) (a .prev1 .0) in
-    let none = wandered-none (settings (a .p)) w (start .pre .0 .prev0-lt) (start .pre .0 .prev1-lt) (now (a .«record»)) in
-    rw at-end at (v .inv .7 w (now (a .«record»)) (simp zero-add at (wandered-more (settings (a .p)) w none (sym (zero-mul _)) (first .0) (first .1) (first .2) (first .3) (first .4))))
+    let at-end : v .k ≡ start .args .n = omega arith in
+    let none = wandered-none _ _ (start .pre .0 .prev0-lt) (start .pre .0 .prev1-lt) _ in
+    rw (← at-end) (v .inv .8 _ _ (simp zero-add at (wandered-more _ _ none (sym (zero-mul _)) (first .0) (first .1) (first .2) (first .3) (first .4))))
 
 pub wander-spec : {M : Type 1} → statement M
 wander-spec =
     tie.close
-    (tie.spec Inv-loop μ-loop returns visit-requires
+    (tie.spec Inv-loop μ-loop
+    (λ c. rw (c .if1 .taken) (wandered-none _ _ (c .before .before .before .pre .0 .prev0-lt) (c .before .before .before .pre .0 .prev1-lt) _))
+    (λ c κs.
+    let start = c .before .before .before .before .before .before in
+    (start .pre .0, omega (arith, one-visit (start .args .n) (start .args .p) (omega (arith, c .before .before .before .if1 .left)) (start .pre .1))))
     (λ c.
     let start = c .before .before .before .before .before .before .before .before .before .before .before .before in
-    omega (arith, first-at (start .args .n) (start .args .p .columns) (omega (arith, c .before .before .before .before .before .before .before .before .before .if1 .left)) (start .pre .1)))
+    omega (arith, one-visit (start .args .n) (start .args .p) (omega (arith, c .before .before .before .before .before .before .before .before .before .if1 .left)) (start .pre .1)))
     (λ c.
     let start = c .before .before .before .before .before .before .before .before .before .before .before .before in
-    omega (arith, first-at (start .args .n) (start .args .p .columns) (omega (arith, c .before .before .before .before .before .before .before .before .before .if1 .left)) (start .pre .1)))
-    loop-holds visit-requires-2 add-calls
+    omega (arith, one-visit (start .args .n) (start .args .p) (omega (arith, c .before .before .before .before .before .before .before .before .before .if1 .left)) (start .pre .1)))
     (λ c.
-    let start = c .before .before .before .before .before .before .before .before .before .before .before .before .before .before .before .before .before .before .before .before .before .before .before .before in
-    omega (arith, first-at (start .args .n) (start .args .p .columns) (omega (arith, c .before .before .before .before .before .before .before .before .before .before .loop-test .taken)) (start .pre .1)))
+    let start = c .before .before .before .before .before .before .before .before .before .before .before .before in
+    let first = c .before .before .before .before .before .visit .ensures in
+    let fits = one-visit (start .args .n) (start .args .p) (omega (arith, c .before .before .before .before .before .before .before .before .before .if1 .left)) (start .pre .1) in
+    (omega arith, first .1, first .2, omega (arith, first .0), omega arith, refl, refl, fits, λ w xs d. d))
+    visit-requires-2
     (λ c.
+    let v = c .before .before .before .before .before .before .before .before .before .before .loop in
+    let start = c .before .before .before .before .before .before .before .before .before .before .before .before .before .before .before .before .before .before .before .before .before .before .before in
+    omega (arith, v .inv .3, c .before .before .before .before .before .visit2 .ensures .0, start .pre .2, row-before (v .k) (start .args .n) (start .args .p .columns) (c .before .before .before .before .before .before .before .before .before .loop-test .taken)))
+    (λ c. omega (arith, c .before .before .before .before .before .before .before .before .before .before .before .loop .inv .7)) (λ c. omega (arith, c .before .before .before .before .before .before .before .before .before .before .before .loop .inv .7))
+    (λ c.
+    let v = c .before .before .before .before .before .before .before .before .before .before .before .loop in
     let start = c .before .before .before .before .before .before .before .before .before .before .before .before .before .before .before .before .before .before .before .before .before .before .before .before in
-    omega (arith, first-at (start .args .n) (start .args .p .columns) (omega (arith, c .before .before .before .before .before .before .before .before .before .before .loop-test .taken)) (start .pre .1)))
-    add-at-3
+    omega (arith, v .inv .4, start .pre .1, row-before (v .k) (start .args .n) (visitWords (settings (start .args .p))) (c .before .before .before .before .before .before .before .before .before .before .loop-test .taken)))
     (λ c. omega (arith, c .before .before .before .before .before .before .before .before .before .before .loop-test .taken, c .before .before .before .before .before .before .before .before .before .before .before .before .before .before .before .before .before .before .before .before .before .before .before .before .fits))
-    (λ c. omega (arith, c .before .before .before .before .before .before .before .before .before .before .loop-test .taken))
-    loop-again (λ c. c .before .loop .inv .5 ∙ c .before .before .before .before .before .before .before .visit .kept .1 .0)
-    (λ c. c .before .loop .inv .6 ∙ c .before .before .before .before .before .before .before .visit .kept .1 .1 .1 .1 .1 .0)
-    returns-2)
+    (λ c. omega (arith, c .before .before .before .before .before .before .before .before .before .before .loop-test .taken)) loop-again
+    (λ c. c .before .loop .inv .5 ∙ c .before .before .before .before .before .before .before .visit .kept .1 .0)
+    (λ c. c .before .loop .inv .6 ∙ c .before .before .before .before .before .before .before .visit .kept .1 .1 .1 .1 .1 .0) returns-2)
