@@ -22,7 +22,8 @@ derive-recorded-spec =
       matrix-after = answered-no _ _ e h refl;
       visited-after = answered-no _ _ e h refl;
     })
-    (λ c κs. accepted _ (omega arith) (sym (c .before .before .before .before .recorded-refusal .ensures) ∙ c .before .before .before .if1 .left)) (omega arith) (omega arith) (omega arith)
+    (λ c κs. accepted _ (omega arith) (sym (c .before .before .before .before .recorded-refusal .ensures) ∙ c .before .before .before .if1 .left))
+    (omega arith) (omega arith) (omega arith)
     (λ c.
     let none = sym (c .before .before .before .before .before .before .before .before .before .before .before .recorded-refusal .ensures) ∙ c .before .before .before .before .before .before .before .before .before .before .if1 .left in
     let d = c .before .before .before .before .before .before .record-accepted .ensures in
