@@ -19,4 +19,5 @@ unfolding copyRow
 copy-row-spec =
     tie.close
     (tie.spec Inv-loop μ-loop (λ c. done-none _ _ _ _) (omega arith) (omega arith) (omega arith) (omega arith)
-    (λ c. done-again _ (c .before .before .before .before .before .before .before .loop .inv) (omega arith) (search) (search)) (λ c. c .before .before .loop .inv .same) (λ c. done-end _ (c .before .before .loop .inv) (omega arith)))
+    (λ c. done-again _ (c .before .before .before .before .before .before .before .loop .inv) (omega arith) (search) (search))
+    (λ c. c .before .before .loop .inv .same) (λ c. done-end _ (c .before .before .loop .inv) (omega arith)))
