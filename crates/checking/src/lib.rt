@@ -31,12 +31,12 @@ fn check_accepted(
     requires { ⌜ plainNumber p (input (now password) (now salt) (length (now stored))) (now matrix) ≡ 0 ⌝ }
     ensures { λ r. ⌜ Compared p (input (now (password .entry)) (now (salt .entry)) (length (now (stored .entry)))) (now (stored .entry)) (now (matrix .entry)) (now (matrix .exit)) (r .costs) (flag (r .same)) ⌝ }
 {
+    let mut s = [0; 16];
     let mut none: [u64; 0] = [];
-    let ran = run(password, salt, stored.len(), p, matrix, &mut none);
-    let end = finish(ran, matrix, p);
-    let mut s = end.state;
+    let ran = run(&mut s, password, salt, stored.len(), p, matrix, &mut none);
+    let full = finish(&mut s, ran, matrix, p);
     let c = compare(&mut s, stored);
-    let costs = spent(end.full + c.calls, end.reduced, p);
+    let costs = spent(full + c.calls, ran.reduced, p);
     Checked {
         costs,
         same: c.same,

@@ -24,12 +24,12 @@ fn derive_accepted(
     requires { ⌜ plainNumber p (input (now password) (now salt) (length (now key))) (now matrix) ≡ 0 ⌝ }
     ensures { λ r. ⌜ Derived p (input (now (password .entry)) (now (salt .entry)) (length (now (key .entry)))) (now (key .entry)) (now (matrix .entry)) (now (key .exit)) (now (matrix .exit)) r ⌝ }
 {
+    let mut s = [0; 16];
     let mut none: [u64; 0] = [];
-    let ran = run(password, salt, key.len(), p, matrix, &mut none);
-    let end = finish(ran, matrix, p);
-    let mut s = end.state;
+    let ran = run(&mut s, password, salt, key.len(), p, matrix, &mut none);
+    let full = finish(&mut s, ran, matrix, p);
     let between = squeeze(&mut s, key);
-    spent(end.full + between, end.reduced, p)
+    spent(full + between, ran.reduced, p)
 }
 
 // The plain derivation: fills the key and the used matrix.

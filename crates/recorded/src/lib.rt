@@ -31,12 +31,12 @@ fn record_accepted(
     requires { ⌜ recordedNumber p (input (now password) (now salt) (length (now key))) (now matrix) (now «record») ≡ 0 ⌝ }
     ensures { λ r. ⌜ «recorded-contract» p (input (now (password .entry)) (now (salt .entry)) (length (now (key .entry)))) (now (key .entry)) (now (matrix .entry)) (now («record» .entry)) (now (key .exit)) (now (matrix .exit)) (now («record» .exit)) (r .costs) (r .state) ⌝ }
 {
-    let ran = run(password, salt, key.len(), p, matrix, record);
-    let end = finish(ran, matrix, p);
-    let mut s = end.state;
+    let mut s = [0; 16];
+    let ran = run(&mut s, password, salt, key.len(), p, matrix, record);
+    let state = s;
+    let full = finish(&mut s, ran, matrix, p);
     let between = squeeze(&mut s, key);
-    let costs = spent(end.full + between, end.reduced, p);
-    let state = ran.state;
+    let costs = spent(full + between, ran.reduced, p);
     Recording { costs, state }
 }
 

@@ -9,7 +9,7 @@ use setup::set_up;
 use sponge::duplex::absorb_cell;
 use wandering::wander;
 ghost use mathlib.Core.Path.{_≡_};
-ghost use Prim.Native.Nat.{_*_, _≤_, _<_, _^_};
+ghost use Prim.Native.Nat.{_+_, _≤_, _<_, _^_};
 ghost use lib.ListN.{length};
 ghost use Rattle.lists.specs.Zip.{putInto};
 ghost use Rattle.settings.specs.Settings.{settings};
@@ -20,12 +20,11 @@ ghost use Rattle.wandering.specs.Visits.{walk, wander, visits};
 ghost use Rattle.wandering.specs.Encoding.{encode};
 ghost use Rattle.refusals.specs.Checks.{Accepted, plainChecks};
 ghost use Rattle.derivation.specs.Cost.{reducedCost};
-ghost use Rattle.derivation.specs.Derivation.{setupEnd};
-ghost use Rattle.runs.specs.Runs.{Run, Finished};
+ghost use Rattle.derivation.specs.Derivation.{setupEnd, finalState};
+ghost use Rattle.runs.specs.Runs.{Run};
 
-// What a run to the last visit leaves: the state, the last visit's rows, and the calls that were made.
+// What a run to the last visit leaves beside the state: the last visit's rows, and the calls that were made.
 pub struct Ran {
-    pub state: [u64; 16],
     pub row0: Row,
     pub row1: Row,
     pub full: u64,
@@ -65,6 +64,7 @@ fn walk(s: &mut [u64; 16], m: &mut [u64], p: Parameters, record: &mut [u64]) -> 
 
 // From the starting state to the last visit of a call that no check refuses.
 pub fn run(
+    s: &mut [u64; 16],
     password: &[u8],
     salt: &[u8],
     key_length: usize,
@@ -73,15 +73,14 @@ pub fn run(
     record: &mut [u64],
 ) -> Ran
     requires { ⌜ Accepted (plainChecks (lengths (input (now password) (now salt) «key_length»)) p (length (now m))) ⌝ }
-    ensures { λ r. ⌜ Run p (input (now (password .entry)) (now (salt .entry)) «key_length») (now (m .entry)) (now («record» .entry)) (now (m .exit)) (now («record» .exit)) r ⌝ }
+    ensures { λ r. ⌜ Run p (input (now (password .entry)) (now (salt .entry)) «key_length») (now (m .entry)) (now («record» .entry)) (now (s .exit)) (now (m .exit)) (now («record» .exit)) r ⌝ }
 {
-    let mut state = Profile::start();
-    let full = absorb_input(&mut state, password, salt, key_length, p);
-    let w = walk(&mut state, m, p, record);
+    *s = Profile::start();
+    let full = absorb_input(s, password, salt, key_length, p);
+    let w = walk(s, m, p, record);
     let row0 = w.row0;
     let row1 = w.row1;
     Ran {
-        state,
         row0,
         row1,
         full,
@@ -89,23 +88,11 @@ pub fn run(
     }
 }
 
-// The state that the key is squeezed from, and the calls that were made.
-pub struct Final {
-    pub state: [u64; 16],
-    pub full: u64,
-    pub reduced: u64,
-}
-
-// The last cell, absorbed with a full call.
-pub fn finish(ran: Ran, m: &[u64], p: Parameters) -> Final
+// The last cell, absorbed with a full call, which leaves the state that the key is squeezed from. The answer is the full calls so far.
+pub fn finish(s: &mut [u64; 16], ran: Ran, m: &[u64], p: Parameters) -> u64
     requires { ⌜ (1 ≤ p .columns) × (ran .row0 .0 < p .rows) × (ran .row1 .0 < p .rows) × (matrixWords (settings p) ≤ length (now m)) × (ran .full < 2 ^ 32) ⌝ }
-    ensures { λ r. ⌜ Finished p ran (now (m .entry)) r ⌝ }
+    ensures { λ r. ⌜ (r ≡ ran .full + 1) × (now (s .exit) ≡ finalState (settings p) (walk (work (now (s .entry)) (now (m .entry))) (ran .row0 .0) (ran .row1 .0))) ⌝ }
 {
-    let mut state = ran.state;
-    absorb_cell(&mut state, cell(m, ran.row0, Column(0), p.columns));
-    Final {
-        state,
-        full: ran.full + 1,
-        reduced: ran.reduced,
-    }
+    absorb_cell(s, cell(m, ran.row0, Column(0), p.columns));
+    ran.full + 1
 }

@@ -9,28 +9,23 @@ use Rattle.runs.proofs.Ends.{matrix-after, can-finish, key-after, counts-fit, c
 use Rattle.checking.proofs.check_accepted.Statement.{statement}
 use Rattle.checking.proofs.check_accepted.Tie as tie
 
-add-spent : tie.Need-add-spent
-add-spent c = omega (arith, counts-fit (c .before .before .before .before .before .before .before .before .before .before .run .ensures) (plain-accepted _ _ _ (c .before .before .before .before .before .before .before .before .before .before .before .before .before .before .before .before .before .pre)) (c .before .before .before .before .before .finish .ensures) (c .before .before .compare .ensures .2))
-
-spent-requires : tie.Need-spent-requires
-spent-requires c κs = omega (arith, counts-fit (c .before .before .before .before .before .before .before .before .before .before .run .ensures) (plain-accepted _ _ _ (c .before .before .before .before .before .before .before .before .before .before .before .before .before .before .before .before .before .pre)) (c .before .before .before .before .before .finish .ensures) (c .before .before .compare .ensures .2))
-
 returns : tie.Need-returns
 returns c =
     let none = c .before .before .before .before .before .before .before .before .before .before .before .before .before .before .before .before .before .before .pre in
-    let h = plain-accepted _ _ _ none in
-    let run = c .before .before .before .before .before .before .before .before .before .before .before .run .ensures in
-    let end = c .before .before .before .before .before .before .finish .ensures in
-    let key = c .before .before .before .compare .ensures in
+    let run = c .before .before .before .before .before .before .before .before .before .before .run .ensures in
+    let end = c .before .before .before .before .finish .ensures in
+    let key = c .before .before .compare .ensures in
     record {
-      answer = cost-yes _ _ none (costs-after run h end (key .2) (c .spent .ensures));
-      same-is = answered-yes _ _ none (ap flag (key .0 ∙ ap (sameBytes _) (key-after run h end)));
+      answer = cost-yes _ _ none (costs-after run (plain-accepted _ _ _ none) (end .0) (key .2) (c .spent .ensures));
+      same-is = answered-yes _ _ none (ap flag (key .0 ∙ ap (sameBytes _) (key-after run (end .1))));
       matrix-after = answered-yes _ _ none (matrix-after run);
     }
 
 pub check-accepted-spec : {M : Type 1} → statement M
 check-accepted-spec =
     tie.close
-    (tie.spec (omega arith) (λ c κs. plain-accepted _ _ _ (c .before .before .before .before .before .before .pre))
-    (λ c κs. can-finish (c .before .before .before .before .run .ensures) (plain-accepted _ _ _ (c .before .before .before .before .before .before .before .before .before .before .before .pre)) (omega (arith, c .before .before .before .before .run .kept))) (omega arith) add-spent
-    spent-requires (omega arith) returns)
+    (tie.spec (omega arith) (λ c κs. plain-accepted _ _ _ (c .before .before .before .before .before .before .before .pre))
+    (λ c κs. can-finish (c .before .before .before .before .before .run .ensures) (plain-accepted _ _ _ (c .before .before .before .before .before .before .before .before .before .before .before .before .before .pre)) (omega (arith, c .before .before .before .before .before .run .kept))) (omega arith)
+    (λ c. omega (arith, counts-fit (c .before .before .before .before .before .before .before .before .before .run .ensures) (plain-accepted _ _ _ (c .before .before .before .before .before .before .before .before .before .before .before .before .before .before .before .before .before .pre)) (c .before .before .before .finish .ensures .0) (c .before .compare .ensures .2)))
+    (λ c κs. omega (arith, counts-fit (c .before .before .before .before .before .before .before .before .before .run .ensures) (plain-accepted _ _ _ (c .before .before .before .before .before .before .before .before .before .before .before .before .before .before .before .before .before .pre)) (c .before .before .before .finish .ensures .0) (c .before .compare .ensures .2)))
+    (omega arith) returns)
