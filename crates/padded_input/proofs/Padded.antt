@@ -14,8 +14,7 @@ use Rattle.lists.specs.Zip.{tabulate}
 use Rattle.lists.proofs.ZipLaws.{length-tabulate, getD-tabulate}
 use Rattle.lists.proofs.Parts.{append-inj}
 use Rattle.little_endian.specs.Bytes.{leBytes, leEach}
-use Rattle.little_endian.proofs.ByteLaws.{AllBytes, append-bytes, each-bytes, byte-width, length-each, getD-each}
-use Rattle.little_endian.proofs.Injective.{bytes-inj, each-inj}
+use Rattle.little_endian.proofs.ByteLaws.{AllBytes, append-bytes, each-bytes, byte-width, length-each, getD-each, bytes-inj, each-inj}
 use Rattle.padded_input.specs.Padded.{unpadded, padding, missing, padded, blocks}
 
 -- ---- the padding
