@@ -11,17 +11,13 @@ use Rattle.input.specs.Input.{padded, block, absorbBlocks, absorbInput}
 use Rattle.input.proofs.absorb_padded.Statement.{statement}
 use Rattle.input.proofs.absorb_padded.Tie as tie
 
-abbrev Inv-loop : tie.InvT-loop
-Inv-loop s₀ password salt numbers n calls₀ b₀ s calls b = (b ≤ n) × (calls ≡ b) × (s ≡ absorbBlocks plainSum b (padded password salt numbers) s₀)
-
-abbrev μ-loop : tie.MeasureT-loop
-μ-loop s₀ password salt numbers n calls₀ b₀ s calls b = n - b
-
 pub absorb-padded-spec : {M : Type 1} → statement M
 unfolding absorbBlocks absorbInput
 absorb-padded-spec =
     tie.close
-    (tie.spec Inv-loop μ-loop (omega arith) (λ c. (omega arith, omega arith, refl)) (omega arith) (λ c κs. tt)
+    (tie.spec
+    (λ s₀ password salt numbers n calls₀ b₀ s calls b. (b ≤ n) × (calls ≡ b) × (s ≡ absorbBlocks plainSum b (padded password salt numbers) s₀))
+    (λ s₀ password salt numbers n calls₀ b₀ s calls b. n - b) (omega arith) (λ c. (omega arith, omega arith, refl)) (omega arith) (λ c κs. tt)
     (omega arith) (omega arith) (omega arith)
     (λ c.
     let xored = c .before .before .xor-block in
