@@ -68,4 +68,5 @@ pub end-states-settle-inputs : (p : Parameters) (b : ℕ) (x y : Trial p) → At
 unfolding recordedChecks plainChecks costChecks
 end-states-settle-inputs p b x y h =
     subst₂ (λ (e f : End). EndAlike e f ↔ StartAlike (inputOf x) (inputOf y)) (sym (end-of x)) (sym (end-of y))
-    (end-states-tell-inputs (settings p) plain-undoes (omega (arith, bounds-of x)) b (inputOf x) (inputOf y) (x .matrix) (y .matrix) (fits-of x) (fits-of y) h)
+    (end-states-tell-inputs (settings p) plain-undoes (omega (arith, bounds-of x)) b (inputOf x) (inputOf y) (x .matrix) (y .matrix)
+    (fits-of x) (fits-of y) h)

@@ -106,7 +106,8 @@ module _ {bytes : List ℕ} {at : ℕ} where
   pub loaded-none : AllBytes bytes → at + 8 ≤ length bytes → Loaded bytes at 8 0
   unfolding leValue
   loaded-none all fits =
-      record { all = all; fits = fits; within = omega arith; so-far = sym (ap leValue (drop-of-length-le (take 8 (drop at bytes)) {i = 8} (simp length-take (omega arith)))) }
+      let none = drop-of-length-le (take 8 (drop at bytes)) {i = 8} (simp length-take (omega arith)) in
+      record { all = all; fits = fits; within = omega arith; so-far = sym (ap leValue none) }
 
   -- seven bytes at most leave room for one more
   pub loaded-room : {i v : ℕ} → Loaded bytes at i v → 0 < i → v < 2 ^ 56

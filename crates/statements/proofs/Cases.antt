@@ -27,13 +27,13 @@ bench-cases =
       stp-with-wnd-32 = (refl, refl);
       -- bytes 32 to 63 are padded
       password-none = λ S x s e.
-          let l : length (unpadded (x .password) (x .salt) (numbers x S)) ≡ 32 = omega (arith, length-unpadded (x .password) (x .salt) (numbers x S)) in
-          (omega (arith, length-padded-input S x), drop-at (unpadded (x .password) (x .salt) (numbers x S)) _ 32 l ∙ ap (λ (n : ℕ). padding (missing n)) l ∙ padding-32);
+          let bytes = unpadded (x .password) (x .salt) (numbers x S) in
+          let l : length bytes ≡ 32 = omega (arith, length-unpadded (x .password) (x .salt) (numbers x S)) in
+          (omega (arith, length-padded-input S x), drop-at bytes _ 32 l ∙ ap (λ (n : ℕ). padding (missing n)) l ∙ padding-32);
       -- only the last byte is padded
-      password-31 = λ S x s e. (
-        omega (arith, length-padded-input S x),
-        sym (padding-is 1 0 0x81 (omega arith) (yes refl) (yes refl) refl ∙ padding-at (x .password) (x .salt) (numbers x S) 63 0 1 (omega arith) (omega arith)),
-      );
+      password-31 = λ S x s e.
+          let last = padding-at (x .password) (x .salt) (numbers x S) 63 0 1 (omega arith) (omega arith) in
+          (omega (arith, length-padded-input S x), sym (padding-is 1 0 0x81 (omega arith) (yes refl) (yes refl) refl ∙ last));
       -- the input fills its block, and the padding has one of its own
       password-32 = λ S x s e. omega (arith, length-padded-input S x);
       costs-30 = refl;

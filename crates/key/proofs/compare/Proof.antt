@@ -16,7 +16,8 @@ compare-spec =
     (tie.spec
     (λ s₀ stored difference₀ calls₀ i₀ s difference calls i.
     (i ≤ length stored) × Differing stored (keyBytes plainSum (length stored) s₀) i difference × Squeezed plainSum s₀ i s calls)
-    (λ s₀ stored difference₀ calls₀ i₀ s difference calls i. length stored - i) (λ c. (omega arith, differing-none (length-key _ _ _), squeezed-none plainSum))
+    (λ s₀ stored difference₀ calls₀ i₀ s difference calls i. length stored - i)
+    (λ c. (omega arith, differing-none (length-key _ _ _), squeezed-none plainSum))
     (λ c κs. tt) (omega arith) (omega arith) (omega arith) (omega arith)
     (λ c.
     let next = c .before .before .next-byte in

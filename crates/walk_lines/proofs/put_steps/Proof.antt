@@ -10,7 +10,8 @@ pub put-steps-spec : {M : Type 1} → statement M
 put-steps-spec =
     tie.close
     (tie.spec (λ out₀ rows last o₀ at₀ row₀ out o at row. (row ≤ rows) × Reached row o × Lined out₀ out row at)
-    (λ out₀ rows last o₀ at₀ row₀ out o at row. rows - row) (omega arith) (λ c κs. tt) (λ c. (omega arith, reached-first (c .first .ensures), lined-none))
+    (λ out₀ rows last o₀ at₀ row₀ out o at row. rows - row) (omega arith) (λ c κs. tt)
+    (λ c. (omega arith, reached-first (c .first .ensures), lined-none))
     (λ c κs. let row1 = reached-row1 (c .before .before .loop .inv .1) in omega arith)
     (λ c κs. reached-fits (c .before .before .before .before .before .loop .inv .1) (omega arith)) (omega arith) (omega arith)
     (λ c.
