@@ -71,6 +71,6 @@ module _ (b c : ℕ) (h : b < 256) (k : c < 256) where
       let other = length-padded-input (settings least) (inputOf (trial c k)) in
       record { as-many = omega (arith, one, other); others = λ i lt n. absurd (n (omega (arith, one))) }
 
-  pub passwords-differ : trial b h .password ≡ trial c k .password → b ≡ c
+  pub passwords-tell-bytes : trial b h .password ≡ trial c k .password → b ≡ c
   unfolding trial
-  passwords-differ e = ap (λ (l : List ℕ). getD l 0 0) e
+  passwords-tell-bytes e = ap (λ (l : List ℕ). getD l 0 0) e
