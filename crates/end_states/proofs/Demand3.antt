@@ -2,7 +2,7 @@
 -- whose padded inputs have equally many blocks of which at most one differs, the returned states, the used matrices and the used
 -- records are all equal exactly when passwords, salts and key lengths are. It speaks of any two calls that met the contract of
 -- `recorded::derive_recorded`. Assumes nothing.
-use mathlib.Core.Path.{_≡_, sym, ap, _∙_}
+use mathlib.Core.Path.{_≡_, sym, ap, subst₂, _∙_}
 use mathlib.Core.Logic.{_↔_}
 use Prim.Native.Nat.{ℕ}
 use native.Mathlib.Omega.{arith}
@@ -20,7 +20,7 @@ use Rattle.refusals.proofs.Accepted.{accepted}
 use Rattle.derivation.specs.Derivation.{setupEnd, endRecord}
 use Rattle.derivation.specs.Contracts.{recordedNumber}
 use Rattle.derivation.proofs.Answering.{answered-is, accepted-number}
-use Rattle.end_states.specs.EndStates.{EndAlike, StartAlike, AtMostOneDiffers, endOf}
+use Rattle.end_states.specs.EndStates.{End, EndAlike, StartAlike, AtMostOneDiffers, endOf}
 use Rattle.end_states.specs.Trials.{Trial, inputOf, leftBy}
 use Rattle.end_states.proofs.EndStates.{Fits, end-states-tell-inputs}
 
@@ -48,17 +48,17 @@ module _ {p : Parameters} (x : Trial p) where
   unfolding endRecord
   length-of = length-visits (settings p) (setupEnd (settings p) (inputState (settings p) (inputOf x)) (x .matrix)) (visitCount (settings p))
 
-  end-of : EndAlike (leftBy x) (endOf (settings p) (inputOf x) (x .matrix))
+  end-of : _≡_ {A = End} (leftBy x) (endOf (settings p) (inputOf x) (x .matrix))
   unfolding endOf recordedChecks plainChecks costChecks
   end-of =
       let l = endRecord (settings p) (inputOf x) (x .matrix) in
-      record {
-        states = answered-is _ _ none (x .meets .state-is);
-        matrices = ap (take (matrixWords (settings p))) (answered-is _ _ none (x .meets .matrix-after));
-        records =
-            ap (take (recordWords (settings p))) (answered-is _ _ none (x .meets .visited-after))
-            ∙ ap (λ (n : ℕ). take n (putInto (x .visited) l)) (sym length-of)
-            ∙ put-front (x .visited) l (omega (arith, length-of, bounds-of));
+      let records =
+      ap (take (recordWords (settings p))) (answered-is _ _ none (x .meets .visited-after))
+      ∙ ap (λ (n : ℕ). take n (putInto (x .visited) l)) (sym length-of) ∙ put-front (x .visited) l (omega (arith, length-of, bounds-of)) in
+      λ i. record {
+        state = answered-is _ _ none (x .meets .state-is) i;
+        matrix = take (matrixWords (settings p)) (answered-is _ _ none (x .meets .matrix-after) i);
+        visited = records i;
       }
 
 -- ---- the theorem
@@ -67,17 +67,6 @@ pub end-states-settle-inputs : (p : Parameters) (b : ℕ) (x y : Trial p) → At
     → EndAlike (leftBy x) (leftBy y) ↔ StartAlike (inputOf x) (inputOf y)
 unfolding recordedChecks plainChecks costChecks
 end-states-settle-inputs p b x y h =
-    let tell = end-states-tell-inputs (settings p) plain-undoes (omega (arith, bounds-of x)) b (inputOf x) (inputOf y) (x .matrix) (y .matrix) (fits-of x) (fits-of y) h in
-    let ex = end-of x in
-    let ey = end-of y in (
-      λ e. tell .0 (record {
-        states = sym (ex .states) ∙ e .states ∙ ey .states;
-        matrices = sym (ex .matrices) ∙ e .matrices ∙ ey .matrices;
-        records = sym (ex .records) ∙ e .records ∙ ey .records;
-      }),
-      λ i. let e = tell .1 i in record {
-        states = ex .states ∙ e .states ∙ sym (ey .states);
-        matrices = ex .matrices ∙ e .matrices ∙ sym (ey .matrices);
-        records = ex .records ∙ e .records ∙ sym (ey .records);
-      },
-    )
+    subst₂ (λ (e f : End). EndAlike e f ↔ StartAlike (inputOf x) (inputOf y)) (sym (end-of x)) (sym (end-of y))
+    (end-states-tell-inputs (settings p) plain-undoes (omega (arith, bounds-of x)) b (inputOf x) (inputOf y) (x .matrix) (y .matrix)
+    (fits-of x) (fits-of y) h)

@@ -34,34 +34,25 @@ blocks-are : (S : Settings) (x : Input) → blocksOf (paddedInput S x) ≡ input
 blocks-are S x = omega (arith, length-padded-input S x)
 
 module _ (S : Settings) (u : Undoes (S .addition)) (least : 3 ≤ S .rows) (x y : Input) (m l : List ℕ) (fx : Fits S x m) (fy : Fits S y l) where
-  s : List ℕ
-  s = inputState S x
-
-  t : List ℕ
-  t = inputState S y
-
-  hs : IsState s
-  unfolding s
+  hs : IsState (inputState S x)
   hs = input-state S x u (fx .password-bytes) (fx .salt-bytes)
 
-  ht : IsState t
-  unfolding t
+  ht : IsState (inputState S y)
   ht = input-state S y u (fy .password-bytes) (fy .salt-bytes)
 
   start-end : StartAlike x y → EndAlike (endOf S x m) (endOf S y l)
-  unfolding endOf endState endMatrix endRecord walkEnd s t
+  unfolding endOf endState endMatrix endRecord walkEnd
   start-end i =
-      let e : s ≡ t = λ j. inputState S (input (i .passwords j) (i .salts j) (i .key-lengths j)) in
-      let a = walk-forth S u least s m t l hs ht (fx .room) (fy .room) e in
+      let a = walk-forth S u least _ m _ l hs ht (fx .room) (fy .room) (λ j. inputState S (input (i .passwords j) (i .salts j) (i .key-lengths j))) in
       record { states = a .0 .state; matrices = cells-words (S .rows * S .columns) _ _ (a .0 .cells); records = ap encode (a .1) }
 
   end-start : (b : ℕ) → AtMostOneDiffers S b x y → EndAlike (endOf S x m) (endOf S y l) → StartAlike x y
-  unfolding endOf endState endMatrix endRecord walkEnd s t
+  unfolding endOf endState endMatrix endRecord walkEnd
   end-start b apart ends =
-      let told =
-      encode-inj (S .columns) _ _ (visits-of-columns S (visitCount S) (setupEnd S s m)) (visits-of-columns S (visitCount S) (setupEnd S t l)) (ends .records) in
-      let e : s ≡ t =
-      walk-back S u least s m t l hs ht (fx .room) (fy .room)
+      let visited = visits-of-columns S (visitCount S) in
+      let told = encode-inj (S .columns) _ _ (visited (setupEnd S (inputState S x) m)) (visited (setupEnd S (inputState S y) l)) (ends .records) in
+      let e =
+      walk-back S u least _ m _ l hs ht (fx .room) (fy .room)
       (record { state = ends .states; cells = words-cells (S .rows * S .columns) _ _ (ends .matrices) }, told) in
       let i =
       input-state-inj S x y u (fx .password-bytes) (fx .salt-bytes) (fy .password-bytes) (fy .salt-bytes) (fx .key-fits) (fy .key-fits) (fx .password-fits) (fy .password-fits)

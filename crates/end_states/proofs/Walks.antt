@@ -1,24 +1,32 @@
--- Two walks end alike, in work and visits, exactly where they start from the same state, whatever the two matrices held. Assumes
--- nothing.
-use mathlib.Core.Path.{_≡_, refl}
-use Prim.Native.Nat.{ℕ, _-_, _*_, _≤_}
+-- Two walks end alike, in work and visits, exactly where they start from the same state, whatever the two matrices held; so the key does
+-- not depend on what the matrix held or how long it is. Assumes nothing.
+use mathlib.Core.Path.{_≡_, refl, ap, ap₂, _∙_}
+use Prim.Native.Nat.{ℕ, _+_, _-_, _*_, _≤_, _<_}
 use native.Mathlib.Omega.{arith}
 use mathlib.Core.List.{List}
 use lib.ListN.{length}
+use Rattle.little_endian.proofs.ByteLaws.{AllBytes}
 use Rattle.mixer.specs.Word.{Undoes}
 use Rattle.permutation.proofs.State.{IsState}
+use Rattle.profile.specs.Profile.{fullRounds}
+use Rattle.sponge.specs.Sponge.{absorb}
 use Rattle.settings.specs.Settings.{Settings}
 use Rattle.settings.specs.Sizes.{matrixWords, visitCount}
+use Rattle.matrix.specs.Cells.{cellAt}
+use Rattle.matrix.proofs.Apart.{row-before}
 use Rattle.columns.specs.Columns.{work}
 use Rattle.columns.proofs.View.{Sound, Below}
 use Rattle.setup_order.proofs.Windows.{prev1-lt}
 use Rattle.setup.proofs.SetupKeeps.{setup-keeps}
 use Rattle.wandering.specs.Visits.{Walk, wander, visits}
 use Rattle.wandering.proofs.VisitsUndone.{SoundWalk, SameDone, SameRows, wander-sound, wander-rows, wander-forth, wander-back}
-use Rattle.derivation.specs.Derivation.{setupEnd}
+use Rattle.input.specs.Input.{Input, inputState}
+use Rattle.input.proofs.InputLaws.{input-state}
+use Rattle.key.specs.Key.{keyBytes}
+use Rattle.derivation.specs.Derivation.{setupEnd, walkEnd, finalState, keyOf}
 
 module _ (S : Settings) (u : Undoes (S .addition)) (least : 3 ≤ S .rows) where
-  abbrev pub last : List ℕ → List ℕ → Walk
+  abbrev last : List ℕ → List ℕ → Walk
   last s m = wander S (visitCount S) (setupEnd S s m)
 
   before-setup : (s m : List ℕ) → IsState s → matrixWords S ≤ length m → Sound (S .rows * S .columns) (Below (0 * S .columns)) (work s m)
@@ -37,7 +45,7 @@ module _ (S : Settings) (u : Undoes (S .addition)) (least : 3 ≤ S .rows) where
   unfolding setupEnd
   start-rows s m t l = (refl, refl)
 
-  pub last-sound : (s m : List ℕ) → IsState s → matrixWords S ≤ length m → SoundWalk (S .rows) (S .columns) (last s m)
+  last-sound : (s m : List ℕ) → IsState s → matrixWords S ≤ length m → SoundWalk (S .rows) (S .columns) (last s m)
   last-sound s m hs fits = wander-sound S u (visitCount S) (setupEnd S s m) (start-sound s m hs fits)
 
   module _ (s m t l : List ℕ) (hs : IsState s) (ht : IsState t) (fm : matrixWords S ≤ length m) (fl : matrixWords S ≤ length l) where
@@ -59,5 +67,22 @@ module _ (S : Settings) (u : Undoes (S .addition)) (least : 3 ≤ S .rows) where
         .state
 
     -- the last visits have the same rows
-    pub walk-rows : Alike → SameRows (last s m) (last t l)
+    walk-rows : Alike → SameRows (last s m) (last t l)
     walk-rows a = wander-rows S u (visitCount S) (setupEnd S s m) (setupEnd S t l) (start-rows s m t l) (a .1)
+
+-- equal states end in equal states and cells
+pub key-of-any-matrix : (S : Settings) → Undoes (S .addition) → 3 ≤ S .rows → 1 ≤ S .columns → (x : Input) → AllBytes (x .password) → AllBytes (x .salt)
+    → (m l : List ℕ) → matrixWords S ≤ length m → matrixWords S ≤ length l → keyOf S x m ≡ keyOf S x l
+unfolding keyOf walkEnd finalState
+key-of-any-matrix S u least pos x hp hs m l fm fl =
+    let s = inputState S x in
+    let is = input-state S x u hp hs in
+    let alike = walk-forth S u least s m s l is is fm fl refl in
+    let v = last S u least s m in
+    let w = last S u least s l in
+    let inside : v .prev0 * S .columns + 0 < S .rows * S .columns =
+    omega (arith, row-before (v .prev0) (S .rows) (S .columns) (last-sound S u least s m is fm .prev0)) in
+    let cells : cellAt (S .columns) (v .prev0) 0 (v .done .matrix) ≡ cellAt (S .columns) (w .prev0) 0 (w .done .matrix) =
+    alike .0 .cells (v .prev0 * S .columns + 0) inside
+    ∙ ap (λ (row : ℕ). cellAt (S .columns) row 0 (w .done .matrix)) (walk-rows S u least s m s l is is fm fl alike .0) in
+    ap (keyBytes (S .addition .sum) (x .keyLength)) (ap₂ (absorb (S .addition .sum) fullRounds) cells (alike .0 .state))

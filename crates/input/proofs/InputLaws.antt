@@ -11,8 +11,7 @@ use lib.Seq.{take-all}
 use borrow.Author.Count.{below-more}
 use Rattle.lists.proofs.Parts.{pieces-same}
 use Rattle.lists.proofs.Words.{AllWords}
-use Rattle.little_endian.proofs.ByteLaws.{AllBytes, drop-bytes, words-fit, length-words}
-use Rattle.little_endian.proofs.Injective.{words-inj}
+use Rattle.little_endian.proofs.ByteLaws.{AllBytes, drop-bytes, words-fit, length-words, words-inj}
 use Rattle.mixer.specs.Word.{Addition, Undoes}
 use Rattle.permutation.proofs.State.{IsState}
 use Rattle.profile.specs.Profile.{fullRounds, start}

@@ -6,7 +6,6 @@ use native.Mathlib.Omega.{arith}
 use native.Mathlib.Numerals.{add-one}
 use mathlib.Core.List.{List, [], _∷_, _++_}
 use lib.ListN.{length, getD, take, drop, set, take-append-drop}
-use lib.Seq.{take-all}
 use lib.Bits.{bitXor, xor-lt}
 use Rattle.lists.specs.Zip.{zipInto, zipAt, xorInto, putInto, tabulate}
 use Rattle.lists.proofs.Words.{AllWords, none-words, cons-words}
@@ -38,15 +37,6 @@ module _ (f : ℕ → ℕ → ℕ) where
   zip-more (x ∷ xs) [] j h = absurd (not-suc-le-zero h)
   zip-more (x ∷ xs) (y ∷ ys) zero h = ap (λ (l : List ℕ). f x y ∷ l) (sym (zip-none xs))
   zip-more (x ∷ xs) (y ∷ ys) (suc j) h = ap (λ (l : List ℕ). f x y ∷ l) (zip-more xs ys j (le-of-suc-le-suc h))
-
-  -- the two steps of a loop over n places: one place more, and the end
-  module _ (xs ys s : List ℕ) (j n : ℕ) (l : length ys ≡ n) (inv : s ≡ zipInto f xs (take j ys)) where
-    pub zip-again : (v : ℕ) → j < n → v ≡ getD ys j 0 → set s j (f (getD s j 0) v) ≡ zipInto f xs (take (suc j) ys)
-    zip-again v h e =
-        ap₂ (λ (t : List ℕ) (w : ℕ). set t j (f (getD t j 0) w)) inv e ∙ zip-more xs ys j (omega arith)
-
-    pub zip-end : n ≤ j → s ≡ zipInto f xs ys
-    zip-end h = inv ∙ ap (zipInto f xs) (take-all j ys (omega arith))
 
   -- what g undoes place by place, it undoes on lists
   pub zip-undo : (g : ℕ → ℕ → ℕ) → ((x y : ℕ) → g (f x y) y ≡ x) → (xs ys : List ℕ) → zipInto g (zipInto f xs ys) ys ≡ xs

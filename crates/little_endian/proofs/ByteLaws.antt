@@ -1,7 +1,8 @@
--- Laws of numbers as bytes: their range, their elements, and that the two directions undo each other. Assumes nothing.
+-- Laws of numbers as bytes: their range, their elements, that the two directions undo each other, and so that each tells the other.
+-- Assumes nothing.
 use mathlib.Core.Path.{_≡_, refl, sym, ap, ap₂, _∙_, subst}
 use Prim.Native.Nat.{ℕ, zero, suc, _+_, _*_, _/_, _%_, _^_, _≤_, _<_}
-use native.Mathlib.Nat.{not-suc-le-zero, le-of-suc-le-suc, lt-of-lt-of-le, mul-suc, mul-zero}
+use native.Mathlib.Nat.{not-suc-le-zero, le-of-suc-le-suc, lt-of-lt-of-le, mul-suc, mul-zero, suc-inj}
 use native.Mathlib.Omega.{arith}
 use mathlib.Core.List.{List, [], _∷_, _++_}
 use lib.ListN.{length, getD, take, drop, length-append, length-take, length-drop, drop-of-length-le, List·getD-append}
@@ -9,6 +10,7 @@ use lib.Seq.{getD-take, getD-drop, getD-append-add, drop-cons}
 use lib.Pow.{pow-add, pow-mono, shr-shr}
 use lib.Arith.{digits-lt, digits-div, digits-mod}
 use Rattle.lists.proofs.ZipLaws.{length-tabulate, getD-tabulate, tabulate-words}
+use Rattle.lists.proofs.Parts.{append-inj, pieces-same}
 use Rattle.little_endian.specs.Bytes.{leValue, leBytes, leEach, leWords}
 
 -- every element is a byte
@@ -91,31 +93,46 @@ take-bytes (suc n) (b ∷ bs) h (suc i) = take-bytes n bs (λ j. h (suc j)) i
 pub drop-bytes : (n : ℕ) (l : List ℕ) → AllBytes l → AllBytes (drop n l)
 drop-bytes n l h i = subst (λ (x : ℕ). x < 256) (sym (getD-drop n l i 0)) (h (n + i))
 
--- ---- bytes tell the numbers
+-- ---- a word at a place, read from its highest byte down
 
--- a word at a place, read from its highest byte down: the value of its bytes from i on
-module _ (bytes : List ℕ) (at : ℕ) where
-  abbrev pub from : ℕ → ℕ
-  from i = leValue (drop i (take 8 (drop at bytes)))
+-- bytes i to 7 are read, and stand for v
+pub record Loaded (bytes : List ℕ) (at i v : ℕ) : Type 0 where
+  pub all : AllBytes bytes
+  pub fits : at + 8 ≤ length bytes
+  pub within : i ≤ 8
+  pub so-far : v ≡ leValue (drop i (take 8 (drop at bytes)))
 
-  pub from-none : from 8 ≡ 0
+module _ {bytes : List ℕ} {at : ℕ} where
+  pub loaded-none : AllBytes bytes → at + 8 ≤ length bytes → Loaded bytes at 8 0
   unfolding leValue
-  from-none = ap leValue (drop-of-length-le (take 8 (drop at bytes)) {i = 8} (simp length-take (omega arith)))
+  loaded-none all fits =
+      let none = drop-of-length-le (take 8 (drop at bytes)) {i = 8} (simp length-take (omega arith)) in
+      record { all = all; fits = fits; within = omega arith; so-far = sym (ap leValue none) }
 
   -- seven bytes at most leave room for one more
-  pub from-small : AllBytes bytes → (i : ℕ) → 0 < i → from i < 2 ^ 56
-  from-small all i pos =
-      lt-of-lt-of-le
-      (value-lt _ (drop-bytes i (take 8 (drop at bytes)) (take-bytes 8 (drop at bytes) (drop-bytes at bytes all))))
-      (pow-mono {j = 56} (simp (length-drop, length-take) (omega arith)))
+  pub loaded-room : {i v : ℕ} → Loaded bytes at i v → 0 < i → v < 2 ^ 56
+  loaded-room {i} q pos =
+      rw (q .so-far)
+      (lt-of-lt-of-le
+      (value-lt _ (drop-bytes i (take 8 (drop at bytes)) (take-bytes 8 (drop at bytes) (drop-bytes at bytes (q .all)))))
+      (pow-mono {j = 56} (simp (length-drop, length-take) (omega arith))))
 
-  pub from-more : at + 8 ≤ length bytes → (k i : ℕ) → suc k ≡ i → i ≤ 8 → from k ≡ from i * 256 + getD bytes (at + k) 0
+  pub loaded-more : {i v k b : ℕ} → Loaded bytes at i v → suc k ≡ i → b ≡ getD bytes (at + k) 0 → Loaded bytes at k (v * 256 + b)
   unfolding leValue
-  from-more fits k i e le =
-      let inside : k < length (take 8 (drop at bytes)) = simp (length-take, length-drop) (omega arith) in
-      rw (← e, drop-cons (take 8 (drop at bytes)) k 0 inside)
-      (ap (λ (x : ℕ). leValue (drop (suc k) (take 8 (drop at bytes))) * 256 + x)
-      (getD-take 8 (drop at bytes) k 0 (omega arith) ∙ getD-drop at bytes k 0))
+  loaded-more {k = k} q e here =
+      let inside : k < length (take 8 (drop at bytes)) = simp (length-take, length-drop) (omega (arith, q .fits, q .within)) in
+      record {
+        all = q .all;
+        fits = q .fits;
+        within = omega (arith, q .within);
+        so-far =
+            rw (drop-cons (take 8 (drop at bytes)) k 0 inside)
+            (ap₂ (λ (x y : ℕ). x * 256 + y) (q .so-far ∙ ap (λ (n : ℕ). leValue (drop n (take 8 (drop at bytes)))) (sym e))
+            (here ∙ sym (getD-take 8 (drop at bytes) k 0 (omega (arith, q .within)) ∙ getD-drop at bytes k 0)));
+      }
+
+  pub loaded-end : {i v : ℕ} → Loaded bytes at i v → i ≡ 0 → v ≡ leValue (take 8 (drop at bytes))
+  loaded-end q e = rw e at (q .so-far)
 
 pub length-words : (n : ℕ) (bytes : List ℕ) → length (leWords n bytes) ≡ n
 unfolding leWords
@@ -131,3 +148,40 @@ unfolding leWords
 words-fit n bytes h =
     tabulate-words n _
     (λ i. lt-of-lt-of-le (value-lt _ (take-bytes 8 (drop (8 * i) bytes) (drop-bytes (8 * i) bytes h))) (pow-mono {j = 64} (simp length-take (omega arith))))
+
+-- ---- numbers are known by their bytes, and bytes by the words that they make
+
+pub value-bytes : (n x : ℕ) → x < 2 ^ (8 * n) → leValue (leBytes n x) ≡ x
+unfolding leValue leBytes
+value-bytes zero x h = omega arith
+value-bytes (suc n) x h =
+    let more : 2 ^ (8 * suc n) ≡ 2 ^ (8 * n) * 256 = ap (λ (e : ℕ). 2 ^ e) (omega arith) ∙ pow-add 2 (8 * n) 8 in
+    let rest : leValue (leBytes n (x / 256)) ≡ x / 256 = value-bytes n (x / 256) (omega arith) in
+    omega arith
+
+pub bytes-inj : (n x y : ℕ) → x < 2 ^ (8 * n) → y < 2 ^ (8 * n) → leBytes n x ≡ leBytes n y → x ≡ y
+bytes-inj n x y hx hy e = sym (value-bytes n x hx) ∙ ap leValue e ∙ value-bytes n y hy
+
+pub value-inj : (l m : List ℕ) → AllBytes l → AllBytes m → length l ≡ length m → leValue l ≡ leValue m → l ≡ m
+value-inj l m hl hm len e = sym (bytes-value l hl) ∙ ap₂ leBytes len e ∙ bytes-value m hm
+
+-- the bytes of n words
+pub words-inj : (n : ℕ) (l m : List ℕ) → AllBytes l → AllBytes m → 8 * n ≤ length l → 8 * n ≤ length m
+    → leWords n l ≡ leWords n m → take (8 * n) l ≡ take (8 * n) m
+words-inj n l m hl hm fl fm e =
+    pieces-same 8 n l m
+    (λ i lt.
+    value-inj _ _ (take-bytes 8 (drop (8 * i) l) (drop-bytes (8 * i) l hl)) (take-bytes 8 (drop (8 * i) m) (drop-bytes (8 * i) m hm))
+    (simp (length-take, length-drop) (omega arith))
+    (sym (getD-words n l i lt) ∙ ap (λ (words : List ℕ). getD words i 0) e ∙ getD-words n m i lt))
+
+-- the bytes of each number of a list
+pub each-inj : (n : ℕ) (xs ys : List ℕ) → length xs ≡ length ys → leEach n xs ≡ leEach n ys
+    → (i : ℕ) → leBytes n (getD xs i 0) ≡ leBytes n (getD ys i 0)
+unfolding leEach
+each-inj n [] [] len e i = refl
+each-inj n [] (y ∷ ys) len e i = absurd (omega arith)
+each-inj n (x ∷ xs) [] len e i = absurd (omega arith)
+each-inj n (x ∷ xs) (y ∷ ys) len e i =
+    let parts = append-inj (leBytes n x) (leBytes n y) (leEach n xs) (leEach n ys) (length-bytes n x ∙ sym (length-bytes n y)) e in
+    elim i [ zero ↦ parts .0 | suc j ↦ each-inj n xs ys (suc-inj len) (parts .1) j ]

@@ -1,3 +1,2 @@
 -- The laws of numbers as bytes.
 pub mod ByteLaws
-pub mod Injective

@@ -1,4 +1,3 @@
 -- The laws of words and of G.
 pub mod WordLaws
 pub mod GLaws
-pub mod Cases

@@ -5,17 +5,16 @@ use mathlib.Core.Bool.{Bool, true, false, cond}
 use Prim.Native.Nat.{ℕ, zero, suc, _+_, _-_, _*_, _≤_, _<_, _^_}
 use native.Mathlib.Decide.{decLt}
 use native.Mathlib.Omega.{arith}
-use mathlib.Core.List.{List, _++_, append-assoc, _∷_}
+use mathlib.Core.List.{List, [], _∷_, _++_, append-assoc}
 use lib.Dec.{eqb}
-use lib.ListN.{length, getD, length-append, List·getD-append, List·getD-eq-default}
+use lib.ListN.{length, getD, replicate, length-append, List·getD-append, List·getD-eq-default}
 use lib.Seq.{getD-append-add}
 use borrow.Author.Tests.{eq-eqb, ne-eqb}
 use Rattle.lists.specs.Zip.{tabulate}
 use Rattle.lists.proofs.ZipLaws.{length-tabulate, getD-tabulate}
 use Rattle.lists.proofs.Parts.{append-inj}
 use Rattle.little_endian.specs.Bytes.{leBytes, leEach}
-use Rattle.little_endian.proofs.ByteLaws.{AllBytes, append-bytes, each-bytes, byte-width, length-each, getD-each}
-use Rattle.little_endian.proofs.Injective.{bytes-inj, each-inj}
+use Rattle.little_endian.proofs.ByteLaws.{AllBytes, append-bytes, each-bytes, byte-width, length-each, getD-each, bytes-inj, each-inj}
 use Rattle.padded_input.specs.Padded.{unpadded, padding, missing, padded, blocks}
 
 -- ---- the padding
@@ -51,6 +50,11 @@ bit-test a b k (no n) = rw (ne-eqb a b n)
 
 pub padding-is : (n i x : ℕ) → 0 < n → (f : Dec (i ≡ 0)) (l : Dec (suc i ≡ n)) → x ≡ bit f 0x80 + bit l 0x01 → x ≡ getD (padding n) i 0
 padding-is n i x h f l e = e ∙ ap₂ (λ (a b : ℕ). a + b) (bit-test i 0 0x80 f) (bit-test (suc i) n 0x01 l) ∙ padding-byte n i h
+
+-- thirty-two bytes written out
+pub padding-32 : padding 32 ≡ 0x80 ∷ (replicate 30 0 ++ (0x01 ∷ []))
+unfolding padding tabulate
+padding-32 = refl
 
 cond-le : (b : Bool) (k : ℕ) → cond b k 0 ≤ k
 cond-le true k = omega arith

@@ -1,4 +1,2 @@
 -- The laws of the order in which Setup revisits rows.
-pub mod OddSteps
 pub mod Windows
-pub mod Cases

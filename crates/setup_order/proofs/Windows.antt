@@ -1,18 +1,45 @@
 -- Where the order of Setup stands: each window is a power of two and its step is odd, so that row1 comes back to 0 only when as many
 -- rows as the window holds are filled. Assumes nothing.
 use mathlib.Core.Path.{_≡_, refl, sym, ap, _∙_}
-use Prim.Native.Nat.{ℕ, zero, suc, _+_, _-_, _*_, _%_, _^_, _≤_, _<_}
+use Prim.Native.Nat.{ℕ, zero, suc, _+_, _-_, _*_, _/_, _%_, _^_, _≤_, _<_}
 use native.Mathlib.Nat.{add-suc, pow-suc, suc-mul, zero-mod, zero-mul, mod-lt, mod-eq-of-lt, mod-add-mod, mul-mod-right, eq-or-lt-of-le}
+use native.Mathlib.Nat.{mod-one, mul-assoc, mul-add, mul-one}
 use native.Mathlib.Omega.{arith}
 use mathlib.Core.Bool.{Bool, true, false, cond, not}
 use lib.Pow.{pow-pos, pow-mono}
-use lib.Arith.{lt-of-le-ne}
+use lib.Arith.{lt-of-le-ne, mod-mul}
 use lib.Dec.{eqb}
 use mathlib.Core.Logic.{⊎-elim}
 use borrow.Author.Tests.{eqb-true, eqb-false}
 use Rattle.setup_order.specs.declared.Order.{Order}
 use Rattle.setup_order.specs.SetupOrder.{Fits, firstOrder, moved, newWindow, nextOrder, order, row1Of}
-use Rattle.setup_order.proofs.OddSteps.{odd-cancel}
+
+-- ---- steps of an odd length around a circle whose length is a power of two come back to their start only after a whole round
+
+-- an odd factor leaves a number even or odd as it was
+odd-factor : (x s : ℕ) → s % 2 ≡ 1 → (x * s) % 2 ≡ x % 2
+odd-factor x s odd =
+    let split : x * s ≡ x * (s / 2) * 2 + x =
+    ap (λ (n : ℕ). x * n) (omega arith) ∙ mul-add x (s / 2 * 2) 1 ∙ simp (mul-one, mul-assoc) in
+    omega arith
+
+-- half of an even number's multiple
+half-of : (x s : ℕ) → x % 2 ≡ 0 → x * s / 2 ≡ x / 2 * s
+half-of x s even =
+    let split : x * s ≡ 2 * (x / 2 * s) = ap (λ (n : ℕ). n * s) (omega arith) ∙ mul-assoc 2 (x / 2) s in
+    omega arith
+
+-- with s odd, a power of two that divides x * s divides x
+odd-cancel : (e x s : ℕ) → s % 2 ≡ 1 → (x * s) % 2 ^ e ≡ 0 → x % 2 ^ e ≡ 0
+odd-cancel zero x s odd h = mod-one x
+odd-cancel (suc e) x s odd h =
+    let halves : (n : ℕ) → n % 2 ^ suc e ≡ (n / 2 % 2 ^ e) * 2 + n % 2 =
+    λ n. ap (λ (m : ℕ). n % m) (pow-suc 2 e) ∙ mod-mul n (pow-pos e) (omega arith) in
+    let even : x % 2 ≡ 0 = omega (arith, halves (x * s), odd-factor x s odd) in
+    let half : (x / 2 * s) % 2 ^ e ≡ 0 = rw (← half-of x s even) (omega (arith, halves (x * s))) in
+    omega (arith, halves x, odd-cancel e (x / 2) s odd half)
+
+-- ---- windows
 
 -- with r = 2 ^ a: where gap is +1, wnd is 2·r² and stp is 2·r − 1; where it is −1, wnd is r² and stp is r + 1
 abbrev pub Shape : Bool → ℕ → ℕ → ℕ → Type 0

@@ -10,7 +10,6 @@ use Rattle.lists.specs.Zip.{xorInto}
 use Rattle.lists.proofs.Words.{AllWords, each-words}
 use Rattle.lists.proofs.ZipLaws.{length-zip, zip-undo, zip-told, xor-words}
 use Rattle.mixer.specs.Word.{Addition, Undoes}
-use Rattle.permutation.specs.Round.{rounds}
 use Rattle.mixer.proofs.WordLaws.{xor-undo, xor-undo-left}
 use Rattle.permutation.proofs.State.{IsState}
 use Rattle.permutation.proofs.Undo.{rounds-state, rounds-undo, rounds-inj}
@@ -20,11 +19,6 @@ use Rattle.sponge.specs.Sponge.{absorb, unabsorb}
 pub start-state : IsState start
 unfolding start startingWords
 start-state = record { len = refl; word = each-words start (omega arith) }
-
--- absorbing in two steps
-pub absorb-call : (sum : ℕ → ℕ → ℕ) (n : ℕ) (words s t : List ℕ) → t ≡ xorInto s words → rounds sum n t ≡ absorb sum n words s
-unfolding absorb
-absorb-call sum n words s t e = ap (rounds sum n) e
 
 xor-state : {s : List ℕ} (words : List ℕ) → AllWords words → IsState s → IsState (xorInto s words)
 xor-state {s} words hw hs =

@@ -21,7 +21,7 @@ use Rattle.derivation.specs.Derivation.{keyOf}
 use Rattle.derivation.specs.Contracts.{plainNumber, Derived, Compared, Recorded}
 use Rattle.derivation.specs.declared.Costs.{Costs}
 use Rattle.derivation.proofs.Answering.{answered-is, accepted-number}
-use Rattle.end_states.proofs.Keys.{key-of-any-matrix}
+use Rattle.end_states.proofs.Walks.{key-of-any-matrix}
 
 -- 1 stands for yes alone
 flag-yes : (b : Bool) → flag b ≡ 1 → b ≡ true

@@ -1,3 +1,2 @@
 -- The laws of the walk program's text.
-pub mod Answered
 pub mod Cases

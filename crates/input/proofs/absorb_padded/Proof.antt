@@ -1,36 +1,23 @@
 -- `absorb_padded` meets its contract. The loop's invariant: the first b blocks are absorbed, with a call each. Assumes nothing.
-use mathlib.Core.Path.{_≡_, refl, ap, _∙_}
+use mathlib.Core.Path.{_≡_, refl}
 use Prim.Native.Nat.{_≤_, _-_}
 use native.Mathlib.Omega.{arith}
 use native.Mathlib.Numerals.{add-one}
 use Rattle.mixer.specs.Word.{plainSum}
-use Rattle.profile.specs.Profile.{fullRounds}
 use Rattle.sponge.specs.Sponge.{absorb}
-use Rattle.sponge.proofs.Absorbing.{absorb-call}
-use Rattle.input.specs.Input.{padded, block, absorbBlocks, absorbInput}
+use Rattle.input.specs.Input.{padded, absorbBlocks, absorbInput}
 use Rattle.input.proofs.absorb_padded.Statement.{statement}
 use Rattle.input.proofs.absorb_padded.Tie as tie
 
-abbrev Inv-loop : tie.InvT-loop
-Inv-loop s₀ password salt numbers n calls₀ b₀ s calls b = (b ≤ n) × (calls ≡ b) × (s ≡ absorbBlocks plainSum b (padded password salt numbers) s₀)
-
-abbrev μ-loop : tie.MeasureT-loop
-μ-loop s₀ password salt numbers n calls₀ b₀ s calls b = n - b
-
 pub absorb-padded-spec : {M : Type 1} → statement M
-unfolding absorbBlocks absorbInput
+unfolding absorbBlocks absorbInput absorb
 absorb-padded-spec =
     tie.close
-    (tie.spec Inv-loop μ-loop (omega arith) (λ c. (omega arith, omega arith, refl)) (omega arith) (λ c κs. tt)
+    (tie.spec
+    (λ s₀ password salt numbers n calls₀ b₀ s calls b. (b ≤ n) × (calls ≡ b) × (s ≡ absorbBlocks plainSum b (padded password salt numbers) s₀))
+    (λ s₀ password salt numbers n calls₀ b₀ s calls b. n - b) (omega arith) (λ c. (omega arith, omega arith, refl)) (omega arith) (λ c κs. tt)
     (omega arith) (omega arith) (omega arith)
-    (λ c.
-    let xored = c .before .before .xor-block in
-    let head = c .before .before .before .before .before in (
-      omega arith,
-      omega arith,
-      rw add-one (c .full-call .ensures ∙ absorb-call plainSum fullRounds _ (head .loop .s) _ (xored .ensures)
-          ∙ ap (absorb plainSum fullRounds (block (padded _ _ _) (head .loop .b))) (head .loop .inv .2)),
-    ))
+    (λ c. (omega arith, omega arith, rw add-one (cc)))
     (λ c.
     let n = c .before .before .block-count in
     let at-end : c .before .loop .b ≡ n .result = omega arith in

@@ -9,18 +9,15 @@ use Rattle.key.proofs.Same.{Differing, differing-none, differing-more, 
 use Rattle.key.proofs.compare.Statement.{statement}
 use Rattle.key.proofs.compare.Tie as tie
 
-abbrev Inv-loop : tie.InvT-loop
-Inv-loop s₀ stored difference₀ calls₀ i₀ s difference calls i =
-    (i ≤ length stored) × Differing stored (keyBytes plainSum (length stored) s₀) i difference × Squeezed plainSum s₀ i s calls
-
-abbrev μ-loop : tie.MeasureT-loop
-μ-loop s₀ stored difference₀ calls₀ i₀ s difference calls i = length stored - i
-
 pub compare-spec : {M : Type 1} → statement M
 unfolding pieces
 compare-spec =
     tie.close
-    (tie.spec Inv-loop μ-loop (λ c. (omega arith, differing-none (length-key _ _ _), squeezed-none plainSum))
+    (tie.spec
+    (λ s₀ stored difference₀ calls₀ i₀ s difference calls i.
+    (i ≤ length stored) × Differing stored (keyBytes plainSum (length stored) s₀) i difference × Squeezed plainSum s₀ i s calls)
+    (λ s₀ stored difference₀ calls₀ i₀ s difference calls i. length stored - i)
+    (λ c. (omega arith, differing-none (length-key _ _ _), squeezed-none plainSum))
     (λ c κs. tt) (omega arith) (omega arith) (omega arith) (omega arith)
     (λ c.
     let next = c .before .before .next-byte in

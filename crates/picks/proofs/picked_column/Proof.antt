@@ -13,23 +13,12 @@ power k word {n} {r} e h f =
     let low : r ≡ word % n = f ∙ ap (λ (x : ℕ). bitAnd word (x - 1)) e ∙ and-mask word k ∙ ap (λ (x : ℕ). word % x) (sym e) in
     (low, omega (arith, low, mod-lt word h))
 
-returns : tie.Need-returns
-returns c = power 4 (c .before .before .args .word) (c .before .match .keys1) (c .before .before .pre) (c .masked .ensures)
-
-returns-2 : tie.Need-returns-2
-returns-2 c = power 5 (c .before .before .args .word) (c .before .match .keys2) (c .before .before .pre) (c .masked2 .ensures)
-
-returns-3 : tie.Need-returns-3
-returns-3 c = power 6 (c .before .before .args .word) (c .before .match .keys3) (c .before .before .pre) (c .masked3 .ensures)
-
-returns-4 : tie.Need-returns-4
-returns-4 c = power 7 (c .before .before .args .word) (c .before .match .keys4) (c .before .before .pre) (c .masked4 .ensures)
-
-returns-5 : tie.Need-returns-5
-returns-5 c = power 8 (c .before .before .args .word) (c .before .match .keys5) (c .before .before .pre) (c .masked5 .ensures)
-
 pub picked-column-spec : {M : Type 1} → statement M
 picked-column-spec =
     tie.close
-    (tie.spec (omega arith) (omega arith) (omega arith) (omega arith) (omega arith) (omega arith) returns returns-2 returns-3
-    returns-4 returns-5 (omega arith))
+    (tie.spec (omega arith) (omega arith) (omega arith) (omega arith) (omega arith) (omega arith)
+    (λ c. power 4 _ (c .before .match .keys1) (c .before .before .pre) (c .masked .ensures))
+    (λ c. power 5 _ (c .before .match .keys2) (c .before .before .pre) (c .masked2 .ensures))
+    (λ c. power 6 _ (c .before .match .keys3) (c .before .before .pre) (c .masked3 .ensures))
+    (λ c. power 7 _ (c .before .match .keys4) (c .before .before .pre) (c .masked4 .ensures))
+    (λ c. power 8 _ (c .before .match .keys5) (c .before .before .pre) (c .masked5 .ensures)) (omega arith))

@@ -6,16 +6,10 @@ use Rattle.text.proofs.Decimal.{Reading, reading-none, reading-more, re
 use Rattle.text.proofs.number.Statement.{statement}
 use Rattle.text.proofs.number.Tie as tie
 
-abbrev Inv-loop : tie.InvT-loop
-Inv-loop digits v₀ i₀ v i = Reading digits i v
-
-abbrev μ-loop : tie.MeasureT-loop
-μ-loop digits v₀ i₀ v i = length digits - i
-
 pub number-spec : {M : Type 1} → statement M
 number-spec =
     tie.close
-    (tie.spec Inv-loop μ-loop (λ c. reading-none) (omega arith) (λ c κs. tt)
+    (tie.spec (λ digits v₀ i₀ v i. Reading digits i v) (λ digits v₀ i₀ v i. length digits - i) (λ c. reading-none) (omega arith) (λ c κs. tt)
     (λ c. below-digits (c .before .before .before .before .loop .inv) (omega arith) (c .before .widened .ensures) (omega arith))
     (λ c. above-digits (c .before .before .before .before .before .loop .inv) (omega arith) (c .before .before .widened .ensures) (omega arith))
     (λ c. omega (arith, reading-room (c .before .before .before .before .before .loop .inv) (omega arith)))

@@ -6,16 +6,12 @@ use Rattle.walk_lines.proofs.LineLaws.{Lined, lined-none, lined-more, l
 use Rattle.walk_lines.proofs.put_steps.Statement.{statement}
 use Rattle.walk_lines.proofs.put_steps.Tie as tie
 
-abbrev Inv-loop : tie.InvT-loop
-Inv-loop out₀ rows last o₀ at₀ row₀ out o at row = (row ≤ rows) × Reached row o × Lined out₀ out row at
-
-abbrev μ-loop : tie.MeasureT-loop
-μ-loop out₀ rows last o₀ at₀ row₀ out o at row = rows - row
-
 pub put-steps-spec : {M : Type 1} → statement M
 put-steps-spec =
     tie.close
-    (tie.spec Inv-loop μ-loop (omega arith) (λ c κs. tt) (λ c. (omega arith, reached-first (c .first .ensures), lined-none))
+    (tie.spec (λ out₀ rows last o₀ at₀ row₀ out o at row. (row ≤ rows) × Reached row o × Lined out₀ out row at)
+    (λ out₀ rows last o₀ at₀ row₀ out o at row. rows - row) (omega arith) (λ c κs. tt)
+    (λ c. (omega arith, reached-first (c .first .ensures), lined-none))
     (λ c κs. let row1 = reached-row1 (c .before .before .loop .inv .1) in omega arith)
     (λ c κs. reached-fits (c .before .before .before .before .before .loop .inv .1) (omega arith)) (omega arith) (omega arith)
     (λ c.

@@ -1,2 +1,0 @@
--- The laws of the walk program's input.
-pub mod InputForm
