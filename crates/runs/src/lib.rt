@@ -11,16 +11,13 @@ use wandering::wander;
 ghost use mathlib.Core.Path.{_≡_};
 ghost use Prim.Native.Nat.{_+_, _≤_, _<_, _^_};
 ghost use lib.ListN.{length};
-ghost use Rattle.lists.specs.Zip.{putInto};
 ghost use Rattle.settings.specs.Settings.{settings};
-ghost use Rattle.settings.specs.Sizes.{visitCount, matrixWords};
+ghost use Rattle.settings.specs.Sizes.{matrixWords};
 ghost use Rattle.input.specs.Input.{input, lengths};
 ghost use Rattle.columns.specs.Columns.{work};
-ghost use Rattle.wandering.specs.Visits.{walk, wander, visits};
-ghost use Rattle.wandering.specs.Encoding.{encode};
+ghost use Rattle.wandering.specs.Visits.{walk, wander};
 ghost use Rattle.refusals.specs.Checks.{Accepted, plainChecks};
-ghost use Rattle.derivation.specs.Cost.{reducedCost};
-ghost use Rattle.derivation.specs.Derivation.{setupEnd, finalState};
+ghost use Rattle.derivation.specs.Derivation.{finalState};
 ghost use Rattle.runs.specs.Runs.{Run};
 
 // What a run to the last visit leaves beside the state: the last visit's rows, and the calls that were made.
@@ -31,38 +28,7 @@ pub struct Ran {
     pub reduced: u64,
 }
 
-// The rows of the last visit, and the reduced calls of Setup and the visits.
-struct Walked {
-    row0: Row,
-    row1: Row,
-    calls: u64,
-}
-
-// Setup and the visits; the record gets the visits as far as it reaches.
-fn walk(s: &mut [u64; 16], m: &mut [u64], p: Parameters, record: &mut [u64]) -> Walked
-    requires { ⌜ (3 ≤ p .rows) × (p .rows ≤ 16384) × (1 ≤ p .columns) × (p .columns ≤ 256) × (p .time ≤ 255) × (matrixWords (settings p) ≤ length (now m)) ⌝ }
-    ensures { λ r. ⌜ (r .calls ≡ reducedCost (settings p)) × (r .row0 .0 < p .rows) × (r .row1 .0 < p .rows) × (walk (work (now (s .exit)) (now (m .exit))) (r .row0 .0) (r .row1 .0) ≡ wander (settings p) (visitCount (settings p)) (setupEnd (settings p) (now (s .entry)) (now (m .entry)))) × (now («record» .exit) ≡ putInto (now («record» .entry)) (encode (visits (settings p) (visitCount (settings p)) (setupEnd (settings p) (now (s .entry)) (now (m .entry)))))) ⌝ }
-{
-    let set = set_up(s, m, p);
-    let v = wander(
-        s,
-        m,
-        Row(p.rows - 1),
-        Row(set.prev1),
-        p.rows * p.time,
-        p,
-        record,
-    );
-    let row0 = v.row0;
-    let row1 = v.row1;
-    Walked {
-        row0,
-        row1,
-        calls: set.calls + v.calls,
-    }
-}
-
-// From the starting state to the last visit of a call that no check refuses.
+// From the starting state to the last visit of a call that no check refuses; the record gets the visits as far as it reaches.
 pub fn run(
     s: &mut [u64; 16],
     password: &[u8],
@@ -77,14 +43,23 @@ pub fn run(
 {
     *s = Profile::start();
     let full = absorb_input(s, password, salt, key_length, p);
-    let w = walk(s, m, p, record);
-    let row0 = w.row0;
-    let row1 = w.row1;
+    let set = set_up(s, m, p);
+    let v = wander(
+        s,
+        m,
+        Row(p.rows - 1),
+        Row(set.prev1),
+        p.rows * p.time,
+        p,
+        record,
+    );
+    let row0 = v.row0;
+    let row1 = v.row1;
     Ran {
         row0,
         row1,
         full,
-        reduced: w.calls,
+        reduced: set.calls + v.calls,
     }
 }
 
