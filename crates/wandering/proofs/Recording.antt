@@ -17,7 +17,7 @@ use Rattle.columns.specs.Columns.{Work, picks}
 use Rattle.wandering.specs.Visits.{Walk, walk, Visit, pickedRows, visitColumns, visit, wander, columnPicks, visitData, visits}
 use Rattle.columns.proofs.RowLaws.{row-more}
 use Rattle.wandering.specs.Encoding.{encodePicks, encodeVisit, encode}
-use Rattle.wandering.specs.Wandered.{Wandered}
+use Rattle.wandering.specs.Wandered.{OneVisit, Wandered}
 use Rattle.wandering.proofs.EncodingLaws.{length-picks, as-many-picks}
 
 pub encodePicks-snoc : (ps : List Picks) (p : Picks) → encodePicks (ps ++ (p ∷ [])) ≡ encodePicks ps ++ (p .col0 .0 ∷ p .col1 .0 ∷ [])
@@ -75,18 +75,17 @@ module _ (S : Settings) (w : Walk) where
       record { counted = sym (zero-mul _); prev0-lt = h0; prev1-lt = h1; walked = loop-none (λ k v. visit S v) w; noted = sym (zip-none (λ x y. y) xs) }
 
   -- one visit more, from place `at` of the record on
-  pub wandered-more : {n calls at c : ℕ} {v v′ : Walk} {xs ys ys′ : List ℕ} → Wandered S n w v xs ys calls → at ≡ n * visitWords S → c ≡ S .columns
-      → v′ .prev0 < S .rows → v′ .prev1 < S .rows → v′ ≡ visit S v → ys′ ≡ zipAt (λ x y. y) at ys (encodeVisit (visitData S v))
+  pub wandered-more : {n calls at c : ℕ} {v v′ : Walk} {xs ys ys′ : List ℕ} → Wandered S n w v xs ys calls → at ≡ n * visitWords S → OneVisit S at v v′ ys ys′ c
       → Wandered S (n + 1) w v′ xs ys′ (calls + c)
   unfolding wander visits zipAt
-  wandered-more {n} {calls} {at} {c} {v} {v′} {xs} {ys} {ys′} d place e h0 h1 visited noted =
+  wandered-more {n} {calls} {at} {c} {v} {v′} {xs} {ys} {ys′} d place o =
       let vs = visits S n w in
       let last = visitData S (wander S n w) in
       let where-to : at ≡ 0 + length (encode vs) = omega (arith, length-visits n) in
       record {
-        counted = omega (arith, d .counted, row-more n (S .columns));
-        prev0-lt = h0;
-        prev1-lt = h1;
-        walked = loop-more (λ k u. visit S u) n w v v′ (d .walked) visited;
+        counted = omega (arith, d .counted, o .counted, row-more n (S .columns));
+        prev0-lt = o .prev0-lt;
+        prev1-lt = o .prev1-lt;
+        walked = loop-more (λ k u. visit S u) n w v v′ (d .walked) (o .walked);
         noted = rw (add-one n) (cc (put-append 0 xs (encode vs) (encodeVisit last), encode-snoc vs last));
       }

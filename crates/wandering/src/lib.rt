@@ -14,9 +14,9 @@ ghost use Rattle.settings.specs.Settings.{settings};
 ghost use Rattle.settings.specs.Sizes.{visitWords};
 ghost use Rattle.columns.specs.Bounds.{Within};
 ghost use Rattle.columns.specs.Columns.{work};
-ghost use Rattle.wandering.specs.Visits.{walk, pickedRows, visitColumns, visit, columnPicks, visitData};
-ghost use Rattle.wandering.specs.Encoding.{encodePicks, encodeVisit};
-ghost use Rattle.wandering.specs.Wandered.{Ready, Wandered};
+ghost use Rattle.wandering.specs.Visits.{walk, pickedRows, visitColumns, columnPicks};
+ghost use Rattle.wandering.specs.Encoding.{encodePicks};
+ghost use Rattle.wandering.specs.Wandered.{Ready, OneVisit, Wandered};
 
 // Stores a number in the record, where the record reaches that far.
 fn note(record: &mut [u64], at: usize, value: usize)
@@ -95,7 +95,7 @@ fn visit(
     at: usize,
 ) -> Visited
     requires { ⌜ Ready (settings p) (prev0 .0) (prev1 .0) (length (now m)) × (at + visitWords (settings p) < 2 ^ 64) ⌝ }
-    ensures { λ r. ⌜ (r .calls ≡ p .columns) × (r .row0 .0 < p .rows) × (r .row1 .0 < p .rows) × (walk (work (now (s .exit)) (now (m .exit))) (r .row0 .0) (r .row1 .0) ≡ visit (settings p) (walk (work (now (s .entry)) (now (m .entry))) (prev0 .0) (prev1 .0))) × (now («record» .exit) ≡ zipAt (λ x y. y) at (now («record» .entry)) (encodeVisit (visitData (settings p) (walk (work (now (s .entry)) (now (m .entry))) (prev0 .0) (prev1 .0))))) ⌝ }
+    ensures { λ r. ⌜ OneVisit (settings p) at (walk (work (now (s .entry)) (now (m .entry))) (prev0 .0) (prev1 .0)) (walk (work (now (s .exit)) (now (m .exit))) (r .row0 .0) (r .row1 .0)) (now («record» .entry)) (now («record» .exit)) (r .calls) ⌝ }
 {
     let r = pick_rows(s, prev0, prev1, p);
     note_pair(record, at, r.row0.0, r.row1.0);

@@ -34,14 +34,15 @@ returns c =
     let r = c .before .before .before .before .before .before .before .before .before .before .before .before .before .before .pick-rows in
     let row = c .before .before .before .before .before .before .visit-row in
     let noted = c .before .before .before .before .before .before .before .before .before .before .before .before .note-pair in
-    let w = walk (work (now (start .args .s)) (now (start .args .m))) (start .args .prev0 .0) (start .args .prev1 .0) in (
-      row .ensures .0,
-      r .ensures .0,
-      r .ensures .1,
-      visit-done (settings (start .args .p)) w (r .result) (r .ensures .2) _ (row .ensures .1),
-      visit-noted (settings (start .args .p)) w (r .result) (r .ensures .2) (start .args .at) (now (start .args .«record»)) _
-          (row .ensures .2 ∙ ap (λ (l : List ℕ). zipAt (λ x y. y) (start .args .at + 2) l (encodePicks (columnPicks (settings (start .args .p)) (r .result) (start .args .p .columns) (w .done)))) (noted .ensures)),
-    )
+    let w = walk (work (now (start .args .s)) (now (start .args .m))) (start .args .prev0 .0) (start .args .prev1 .0) in
+    record {
+      counted = row .ensures .0;
+      prev0-lt = r .ensures .0;
+      prev1-lt = r .ensures .1;
+      walked = visit-done (settings (start .args .p)) w (r .result) (r .ensures .2) _ (row .ensures .1);
+      noted = visit-noted (settings (start .args .p)) w (r .result) (r .ensures .2) (start .args .at) (now (start .args .«record»)) _
+          (row .ensures .2 ∙ ap (λ (l : List ℕ). zipAt (λ x y. y) (start .args .at + 2) l (encodePicks (columnPicks (settings (start .args .p)) (r .result) (start .args .p .columns) (w .done)))) (noted .ensures));
+    }
 
 pub visit-spec : {M : Type 1} → statement M
 visit-spec =

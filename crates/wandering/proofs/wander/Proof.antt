@@ -46,14 +46,14 @@ loop-again c =
     let call = c .before .before .before .before .before .before .visit2 in
     let a = c .before .before .before .before .before .before .before .before .before .before .before .before .before .before .before .before .before .before .before .before .before .before .before .before .args in (
       omega (arith, c .before .before .before .before .before .before .before .before .before .before .loop-test .taken),
-      call .ensures .1,
-      call .ensures .2,
-      omega (arith, v .inv .3, call .ensures .0, row-more (v .k) (a .p .columns)),
+      call .ensures .prev0-lt,
+      call .ensures .prev1-lt,
+      omega (arith, v .inv .3, call .ensures .counted, row-more (v .k) (a .p .columns)),
       omega (arith, v .inv .4, row-more (v .k) (visitWords (settings (a .p)))),
       call .kept .1 .0 ∙ v .inv .5,
       call .kept .1 .1 .1 .1 .1 .0 ∙ v .inv .6,
       v .inv .7,
-      λ w xs d. wandered-more _ _ (v .inv .8 w xs d) (v .inv .4) (call .ensures .0) (call .ensures .1) (call .ensures .2) (call .ensures .3) (call .ensures .4),
+      λ w xs d. wandered-more _ _ (v .inv .8 w xs d) (v .inv .4) (call .ensures),
     )
 
 returns-2 : tie.Need-returns-2 Inv-loop μ-loop
@@ -63,7 +63,7 @@ returns-2 c =
     let first = c .before .before .before .before .before .before .before .visit .ensures in
     let at-end : v .k ≡ start .args .n = omega arith in
     let none = wandered-none _ _ (start .pre .0 .prev0-lt) (start .pre .0 .prev1-lt) _ in
-    rw (← at-end) (v .inv .8 _ _ (simp zero-add at (wandered-more _ _ none (sym (zero-mul _)) (first .0) (first .1) (first .2) (first .3) (first .4))))
+    rw (← at-end) (v .inv .8 _ _ (simp zero-add at (wandered-more _ _ none (sym (zero-mul _)) first)))
 
 pub wander-spec : {M : Type 1} → statement M
 wander-spec =
@@ -83,12 +83,12 @@ wander-spec =
     let start = c .before .before .before .before .before .before .before .before .before .before .before .before in
     let first = c .before .before .before .before .before .visit .ensures in
     let fits = one-visit (start .args .n) (start .args .p) (omega (arith, c .before .before .before .before .before .before .before .before .before .if1 .left)) (start .pre .1) in
-    (omega arith, first .1, first .2, omega (arith, first .0), omega arith, refl, refl, fits, λ w xs d. d))
+    (omega arith, first .prev0-lt, first .prev1-lt, omega (arith, first .counted), omega arith, refl, refl, fits, λ w xs d. d))
     visit-requires-2
     (λ c.
     let v = c .before .before .before .before .before .before .before .before .before .before .loop in
     let start = c .before .before .before .before .before .before .before .before .before .before .before .before .before .before .before .before .before .before .before .before .before .before .before in
-    omega (arith, v .inv .3, c .before .before .before .before .before .visit2 .ensures .0, start .pre .2, row-before (v .k) (start .args .n) (start .args .p .columns) (c .before .before .before .before .before .before .before .before .before .loop-test .taken)))
+    omega (arith, v .inv .3, c .before .before .before .before .before .visit2 .ensures .counted, start .pre .2, row-before (v .k) (start .args .n) (start .args .p .columns) (c .before .before .before .before .before .before .before .before .before .loop-test .taken)))
     (λ c. omega (arith, c .before .before .before .before .before .before .before .before .before .before .before .loop .inv .7)) (λ c. omega (arith, c .before .before .before .before .before .before .before .before .before .before .before .loop .inv .7))
     (λ c.
     let v = c .before .before .before .before .before .before .before .before .before .before .before .loop in
