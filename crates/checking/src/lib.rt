@@ -3,7 +3,7 @@ use costs::refused;
 use costs::spent;
 use derivation::Costs;
 use key::compare;
-use refusals::plain_refusal;
+use room_refusals::plain_refusal;
 use runs::finish;
 use runs::run;
 use settings::Lengths;

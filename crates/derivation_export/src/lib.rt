@@ -1,55 +1,20 @@
 // The operations under C names. Each hands on to the proved one and takes its answer apart: the result is 0 or the number of a
 // refusal, and the answer's other fields are stored, zeros where the call was refused. A refusal leaves key, matrix and record as
 // they were.
-use checking::Checked;
-use derivation::Costs;
-use recorded::Recording;
+use c_answers::store_costs;
+use c_answers::store_row;
+use c_answers::store_same;
+use c_answers::store_state;
 use settings::Lengths;
 use settings::Parameters;
-use walk_question::WalkAnswer;
 ghost use mathlib.Core.Path.{_≡_};
 ghost use lib.ListN.{length};
 ghost use Rattle.input.specs.Input.{input};
 ghost use Rattle.refusals.specs.Checks.{first, costChecks};
-ghost use Rattle.derivation.specs.Answers.{costAnswer, flag as «number-of»};
+ghost use Rattle.derivation.specs.Answers.{costAnswer};
 ghost use Rattle.derivation.specs.Contracts.{Derived, Compared, Recorded};
 ghost use Rattle.walk_question.specs.Question.{walkAnswer};
-ghost use Rattle.derivation_export.specs.Stored.{parameters, lengthsOf, stored as «counts-stored»};
-
-// Stores the counts of an answer, and returns its number.
-fn store_costs(a: Costs, counts: &mut [u64; 3]) -> u32
-    ensures { λ r. ⌜ «counts-stored» r (now (counts .exit)) ≡ a ⌝ }
-{
-    *counts = [a.full, a.reduced, a.rounds];
-    a.refusal
-}
-
-// Stores 1 for yes and 0 for no.
-fn store_same(a: Checked, same: &mut u32)
-    ensures { λ _. ⌜ now (same .exit) ≡ «number-of» (a .same) ⌝ }
-{
-    if a.same {
-        *same = 1;
-    } else {
-        *same = 0;
-    }
-}
-
-// Stores the state of a recording.
-fn store_state(a: Recording, state: &mut [u64; 16])
-    ensures { λ _. ⌜ now (state .exit) ≡ a .state ⌝ }
-{
-    let words = a.state;
-    *state = words;
-}
-
-// Stores a row, and returns the number of the answer.
-fn store_row(a: WalkAnswer, row1: &mut usize) -> u32
-    ensures { λ r. ⌜ (r ≡ a .refusal) × (now (row1 .exit) ≡ a .row1) ⌝ }
-{
-    *row1 = a.row1;
-    a.refusal
-}
+ghost use Rattle.c_answers.specs.Stored.{parameters, lengthsOf, stored as «counts-stored»};
 
 // The plain derivation: fills the key and the used matrix.
 #[no_mangle]

@@ -1,13 +1,11 @@
 // When a call is turned down: each check by its number, in the order of the numbers. 0 is no refusal.
-use profile::Profile;
 use settings::Lengths;
 use settings::Parameters;
 ghost use mathlib.Core.Path.{_≡_};
 ghost use mathlib.Core.Bool.{cond};
 ghost use mathlib.Core.List.{[], _∷_};
-ghost use Prim.Native.Nat.{_+_, _*_, _≤_, _<_, _^_};
-ghost use Rattle.profile.specs.Profile.{cellWords};
-ghost use Rattle.refusals.specs.Checks.{first, outside as «is-outside», costChecks, plainChecks, recordedChecks, walkChecks, rowsCheck};
+ghost use Prim.Native.Nat.{_<_};
+ghost use Rattle.refusals.specs.Checks.{first, outside as «is-outside», costChecks, walkChecks, rowsCheck};
 
 pub const KEY_LENGTH: u32 = 1;
 
@@ -43,14 +41,14 @@ pub const MAX_ROWS: usize = 16384;
 
 pub const MAX_COLUMNS: usize = 256;
 
-fn outside(least: usize, most: usize, x: usize) -> bool
+pub fn outside(least: usize, most: usize, x: usize) -> bool
     ensures { λ r. ⌜ r ≡ «is-outside» least most x ⌝ }
 {
     x < least || most < x
 }
 
 // A check's number where it refuses, else what the later checks say.
-fn first_of(refuses: bool, number: u32, later: u32) -> u32
+pub fn first_of(refuses: bool, number: u32, later: u32) -> u32
     ensures { λ r. ⌜ r ≡ cond refuses number later ⌝ }
 {
     if refuses { number } else { later }
@@ -66,49 +64,6 @@ pub fn cost_refusal(l: Lengths, p: Parameters) -> u32
     let three = first_of(outside(MIN_SALT, MAX_SALT, l.salt), SALT_LENGTH, four);
     let two = first_of(outside(0, MAX_PASSWORD, l.password), PASSWORD_LENGTH, three);
     first_of(outside(1, MAX_KEY, l.key), KEY_LENGTH, two)
-}
-
-// The words that so many cells take.
-fn matrix_words(cells: usize) -> usize
-    requires { ⌜ cells ≤ 2 ^ 32 ⌝ }
-    ensures { λ r. ⌜ r ≡ cellWords * cells ⌝ }
-{
-    Profile::CELL_WORDS * cells
-}
-
-// Checks 1 to 7, of the same and of the lent matrix's length.
-pub fn plain_refusal(l: Lengths, p: Parameters, matrix: usize) -> u32
-    ensures { λ r. ⌜ r ≡ first (plainChecks l p matrix) ⌝ }
-{
-    let number = cost_refusal(l, p);
-    if number != 0 {
-        return number;
-    }
-    first_of(matrix < matrix_words(p.rows * p.columns), MATRIX_LENGTH, 0)
-}
-
-// The words that the record of n visits takes.
-fn record_words(n: usize, columns: usize) -> usize
-    requires { ⌜ (columns ≤ 256) × (n * (2 + 2 * columns) < 2 ^ 64) ⌝ }
-    ensures { λ r. ⌜ r ≡ n * (2 + 2 * columns) ⌝ }
-{
-    let visit = 2 + 2 * columns;
-    n * visit
-}
-
-// Checks 1 to 8, of the same and of the lent record's length.
-pub fn recorded_refusal(l: Lengths, p: Parameters, matrix: usize, record: usize) -> u32
-    ensures { λ r. ⌜ r ≡ first (recordedChecks l p matrix «record») ⌝ }
-{
-    let number = plain_refusal(l, p, matrix);
-    if number != 0 {
-        return number;
-    }
-    first_of(
-        record < record_words(p.rows * p.time, p.columns),
-        RECORD_LENGTH,
-        0,
-    )
 }
 
 // Check 5 alone, of R: what the walk program asks.

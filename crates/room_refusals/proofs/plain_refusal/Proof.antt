@@ -8,10 +8,10 @@ use Rattle.settings.specs.Settings.{settings}
 use Rattle.settings.specs.Sizes.{matrixWords}
 use Rattle.settings.specs.declared.Parameters.{Parameters}
 use Rattle.settings.specs.declared.Lengths.{Lengths}
 use Rattle.refusals.specs.Checks.{atLeast, first, costChecks, plainChecks}
 use Rattle.refusals.proofs.Accepted.{accepted, more-refuse, more-pass, cells-most}
-use Rattle.refusals.proofs.plain_refusal.Statement.{statement}
-use Rattle.refusals.proofs.plain_refusal.Tie as tie
+use Rattle.room_refusals.proofs.plain_refusal.Statement.{statement}
+use Rattle.room_refusals.proofs.plain_refusal.Tie as tie
 
 -- what the checks of the cost question leave
 cells : (l : Lengths) (p : Parameters) → first (costChecks l p) ≡ 0 → p .rows * p .columns ≤ 4194304

@@ -8,10 +8,10 @@ use Rattle.settings.specs.Settings.{settings}
 use Rattle.settings.specs.Sizes.{recordWords}
 use Rattle.settings.specs.declared.Parameters.{Parameters}
 use Rattle.settings.specs.declared.Lengths.{Lengths}
 use Rattle.refusals.specs.Checks.{atLeast, first, costChecks, plainChecks, recordedChecks}
 use Rattle.refusals.proofs.Accepted.{accepted, more-refuse, more-pass, record-most, visits-most}
-use Rattle.refusals.proofs.recorded_refusal.Statement.{statement}
-use Rattle.refusals.proofs.recorded_refusal.Tie as tie
+use Rattle.room_refusals.proofs.recorded_refusal.Statement.{statement}
+use Rattle.room_refusals.proofs.recorded_refusal.Tie as tie
 
 -- what the checks of the plain derivation leave
 visited : (l : Lengths) (p : Parameters) (m : ℕ) → first (plainChecks l p m) ≡ 0

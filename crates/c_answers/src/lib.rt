@@ -1,0 +1,44 @@
+// An answer under a C name: its fields are stored where the caller lends a place for them, zeros where the call was refused, and its
+// number is returned. These functions have no proof file, so that a field left alone is refused for what they ensure.
+use checking::Checked;
+use derivation::Costs;
+use recorded::Recording;
+use walk_question::WalkAnswer;
+ghost use mathlib.Core.Path.{_≡_};
+ghost use Rattle.derivation.specs.Answers.{flag as «number-of»};
+ghost use Rattle.c_answers.specs.Stored.{stored as «counts-stored»};
+
+// Stores the counts of an answer, and returns its number.
+pub fn store_costs(a: Costs, counts: &mut [u64; 3]) -> u32
+    ensures { λ r. ⌜ «counts-stored» r (now (counts .exit)) ≡ a ⌝ }
+{
+    *counts = [a.full, a.reduced, a.rounds];
+    a.refusal
+}
+
+// Stores 1 for yes and 0 for no.
+pub fn store_same(a: Checked, same: &mut u32)
+    ensures { λ _. ⌜ now (same .exit) ≡ «number-of» (a .same) ⌝ }
+{
+    if a.same {
+        *same = 1;
+    } else {
+        *same = 0;
+    }
+}
+
+// Stores the state of a recording.
+pub fn store_state(a: Recording, state: &mut [u64; 16])
+    ensures { λ _. ⌜ now (state .exit) ≡ a .state ⌝ }
+{
+    let words = a.state;
+    *state = words;
+}
+
+// Stores a row, and returns the number of the answer.
+pub fn store_row(a: WalkAnswer, row1: &mut usize) -> u32
+    ensures { λ r. ⌜ (r ≡ a .refusal) × (now (row1 .exit) ≡ a .row1) ⌝ }
+{
+    *row1 = a.row1;
+    a.refusal
+}

@@ -1,0 +1,55 @@
+// Checks 7 and 8, of the room in lent memory, after those of the cost question.
+use profile::Profile;
+use refusals::MATRIX_LENGTH;
+use refusals::RECORD_LENGTH;
+use refusals::cost_refusal;
+use refusals::first_of;
+use settings::Lengths;
+use settings::Parameters;
+ghost use mathlib.Core.Path.{_≡_};
+ghost use Prim.Native.Nat.{_+_, _*_, _≤_, _<_, _^_};
+ghost use Rattle.profile.specs.Profile.{cellWords};
+ghost use Rattle.refusals.specs.Checks.{first, plainChecks, recordedChecks};
+
+// The words that so many cells take.
+fn matrix_words(cells: usize) -> usize
+    requires { ⌜ cells ≤ 2 ^ 32 ⌝ }
+    ensures { λ r. ⌜ r ≡ cellWords * cells ⌝ }
+{
+    Profile::CELL_WORDS * cells
+}
+
+// Checks 1 to 7, of the same and of the lent matrix's length.
+pub fn plain_refusal(l: Lengths, p: Parameters, matrix: usize) -> u32
+    ensures { λ r. ⌜ r ≡ first (plainChecks l p matrix) ⌝ }
+{
+    let number = cost_refusal(l, p);
+    if number != 0 {
+        return number;
+    }
+    first_of(matrix < matrix_words(p.rows * p.columns), MATRIX_LENGTH, 0)
+}
+
+// The words that the record of n visits takes.
+fn record_words(n: usize, columns: usize) -> usize
+    requires { ⌜ (columns ≤ 256) × (n * (2 + 2 * columns) < 2 ^ 64) ⌝ }
+    ensures { λ r. ⌜ r ≡ n * (2 + 2 * columns) ⌝ }
+{
+    let visit = 2 + 2 * columns;
+    n * visit
+}
+
+// Checks 1 to 8, of the same and of the lent record's length.
+pub fn recorded_refusal(l: Lengths, p: Parameters, matrix: usize, record: usize) -> u32
+    ensures { λ r. ⌜ r ≡ first (recordedChecks l p matrix «record») ⌝ }
+{
+    let number = plain_refusal(l, p, matrix);
+    if number != 0 {
+        return number;
+    }
+    first_of(
+        record < record_words(p.rows * p.time, p.columns),
+        RECORD_LENGTH,
+        0,
+    )
+}
