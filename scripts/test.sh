@@ -29,8 +29,23 @@ need g++ g++
 need valgrind valgrind
 command -v rt >/dev/null 2>&1 || { echo "rt, of the Rattle kit, is missing"; exit 2; }
 command -v cargo >/dev/null 2>&1 || { echo "cargo is missing"; exit 2; }
-log=$(mktemp) || exit 2
-trap 'rm -f "$log"' EXIT
+work=$(mktemp -d) || exit 2
+log=$work/log
+trap 'rm -rf "$work"' EXIT
+
+# The shell tests one after another, each with its own log; a status is written only once a test has ended.
+run_scripts() {
+    for script in $scripts; do
+        bash "tests/$script.sh" >"$work/$script.log" 2>&1
+        echo "$?" >"$work/$script.status"
+    done
+}
+
+# Shows what a shell test printed; it has passed if it ended with status 0.
+has_passed() { # SCRIPT
+    cat "$work/$1.log"
+    [ "$(cat "$work/$1.status")" = 0 ]
+}
 
 # ---- the proofs
 run "$log" rt ci
@@ -43,13 +58,15 @@ for library in $libraries; do
     step "static library $library" rt staticlib "$library"
 done
 step "the layout of the Rust files" cargo fmt --all --check --manifest-path rust/Cargo.toml
+run_scripts &
 run "$log" cargo test --offline --no-fail-fast --manifest-path rust/Cargo.toml
 count_rust $? "$log" "$packages"
 
-# ---- what the README shows, the walk program, the C interface, and how all this is counted
+# ---- beside them: what the README shows, the walk program, the C interface, and how all this is counted
 require_names "tests/*.sh" "$scripts" "$(cd tests && ls -- *.sh | sed 's/\.sh$//')"
+wait
 for script in $scripts; do
-    step "tests/$script.sh" bash "tests/$script.sh"
+    step "tests/$script.sh" has_passed "$script"
 done
 
 conclude
