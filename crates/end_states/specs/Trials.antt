@@ -32,7 +32,7 @@ pub record Trial (p : Parameters) : Type 0 where
 abbrev pub inputOf : {p : Parameters} → Trial p → Input
 inputOf t = input (t .password) (t .salt) (length (t .key))
 
--- the returned state, the used matrix and the used record, as the call leaves them
+-- what the call returned as the state, and the used parts of what it left in matrix and record
 abbrev pub leftBy : {p : Parameters} → Trial p → End
 leftBy {p} t = record {
   state = t .state;
