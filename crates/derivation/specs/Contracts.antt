@@ -1,5 +1,5 @@
 -- What the operations promise: the answer, and what they leave in each lent buffer. A buffer is `key` before the call and `key′` after
--- it. The record of the visits is called `visited`. Which contract a call meets depends on nothing but these.
+-- it. The record of the visits is called `visited`.
 use mathlib.Core.Path.{_≡_}
 use Prim.Native.Nat.{ℕ}
 use mathlib.Core.List.{List}

@@ -1,2 +1,2 @@
--- The round and n rounds over G, and their inverses; words and additions are passed on from the crate below.
+-- The round and n rounds over G, and their inverses.
 pub mod Round
