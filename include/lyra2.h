@@ -37,7 +37,7 @@ extern "C" {
 #define LYRA2_PASSWORD_MAX 1024
 #define LYRA2_SALT_MIN 8
 #define LYRA2_SALT_MAX 64
-#define LYRA2_TIME_MIN 1
+#define LYRA2_TIME_MIN 0 /* Setup alone: no visit, an empty record */
 #define LYRA2_TIME_MAX 255
 #define LYRA2_ROWS_MIN 3
 #define LYRA2_ROWS_MAX 16384
@@ -84,7 +84,7 @@ static inline const char *lyra2_sentence(uint32_t answer)
     case LYRA2_REFUSED_KEY: return "the key has to have 1 to 1024 bytes";
     case LYRA2_REFUSED_PASSWORD: return "the password may have at most 1024 bytes";
     case LYRA2_REFUSED_SALT: return "the salt has to have 8 to 64 bytes";
-    case LYRA2_REFUSED_TIME: return "the time cost has to be 1 to 255";
+    case LYRA2_REFUSED_TIME: return "the time cost may be at most 255";
     case LYRA2_REFUSED_ROWS: return "the number of rows has to be 3 to 16384";
     case LYRA2_REFUSED_COLUMNS: return "the number of columns has to be 1 to 256";
     case LYRA2_REFUSED_MATRIX: return "the lent matrix is too short for the rows and columns";
@@ -112,7 +112,7 @@ LYRA2_ANSWER uint32_t lyra2_derive(
 
 /*
  * The same key and matrix, with a record of the visits: row0, row1, and for each column col0 and col1. Writes the key,
- * the used matrix, the used record, the state after the last visit and the counts.
+ * the used matrix, the used record, the state after the last visit, or after Setup where time is 0, and the counts.
  */
 LYRA2_ANSWER uint32_t lyra2_derive_recorded(
     const uint8_t *password, size_t password_len,

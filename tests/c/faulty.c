@@ -52,6 +52,12 @@ uint32_t __wrap_lyra2_derive(DERIVE_PARAMETERS, uint64_t *counts)
         return LYRA2_REFUSED_SALT;
     if (has(3, columns > LYRA2_COLUMNS_MAX && key_len > 0))
         return LYRA2_REFUSED_COLUMNS;
+    if (has(25, time == 0))
+        return LYRA2_REFUSED_TIME;
+    if (has(26, time == LYRA2_TIME_MAX + 1))
+        time--;
+    if (has(27, time == 0))
+        time = 1;
     uint32_t answer = __real_lyra2_derive(DERIVE_VALUES, counts);
     bool accepted = answer == LYRA2_ACCEPTED;
     if (has(4, accepted))

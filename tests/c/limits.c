@@ -125,7 +125,8 @@ static void require_limit(const struct limit *limit)
     require_sentence(limit);
 }
 
-/* The macros give the least words: with them a call is accepted, and refused with a word less. */
+/* The macros give the least words: with them a call is accepted, and refused with a word less. A record without visits
+ * has no words. */
 static void require_least_words(size_t time, size_t rows, size_t columns)
 {
     struct sizes sizes = usual;
@@ -134,8 +135,10 @@ static void require_least_words(size_t time, size_t rows, size_t columns)
     sizes.columns = columns;
     require_accepted(sizes);
     sizes = fitting(sizes);
-    sizes.record--;
-    require_refused(sizes, LYRA2_REFUSED_RECORD, RECORDED);
+    if (time > 0) {
+        sizes.record--;
+        require_refused(sizes, LYRA2_REFUSED_RECORD, RECORDED);
+    }
     sizes.matrix--;
     require_refused(sizes, LYRA2_REFUSED_MATRIX, CHECK);
 }
@@ -188,6 +191,8 @@ int main(void)
 {
     for (size_t i = 0; i < sizeof limits / sizeof *limits; i++)
         require_limit(&limits[i]);
+    require_least_words(0, 3, 1);
+    require_least_words(0, 100, 33);
     require_least_words(1, 3, 1);
     require_least_words(2, 5, 7);
     require_least_words(3, 100, 33);

@@ -188,7 +188,7 @@ static void require_refusals(void)
     wrong[0].key = 0;
     wrong[1].password = LYRA2_PASSWORD_MAX + 1;
     wrong[2].salt = LYRA2_SALT_MIN - 1;
-    wrong[3].time = 0;
+    wrong[3].time = LYRA2_TIME_MAX + 1;
     wrong[4].rows = LYRA2_ROWS_MAX + 1;
     wrong[5].columns = 0;
     wrong[6].matrix = 35;
@@ -255,6 +255,8 @@ int main(void)
             require_shape(1, 3 + i % 3, 1 + j % 3, keys[i], passwords[j], i % 2 ? LYRA2_SALT_MAX : LYRA2_SALT_MIN);
     for (size_t i = 0; i < sizeof columns / sizeof *columns; i++)
         require_shape(1 + i % 3, 3 + 2 * i, columns[i], 97, 33, 9);
+    for (size_t i = 0; i < sizeof columns / sizeof *columns; i++)
+        require_shape(0, 3 + 2 * i, columns[i], keys[i % 10], passwords[i % 10], 9);
     require_shape(2, 65, 16, 64, 20, 16);
     require_shape(1, 256, 64, 32, 20, 16);
     require_shape(LYRA2_TIME_MAX, 3, 1, 64, 20, 16);

@@ -43,7 +43,7 @@ static bool make_apply(struct sizes *n, uint32_t check, int side, enum operation
     case LYRA2_REFUSED_SALT:
         return set_length(&n->salt, side, LYRA2_SALT_MIN - 1, LYRA2_SALT_MAX + 1, operation);
     case LYRA2_REFUSED_TIME:
-        return set_number(&n->time, side, LYRA2_TIME_MIN - 1, LYRA2_TIME_MAX + 1);
+        return side != LOW && set_number(&n->time, side, 0, LYRA2_TIME_MAX + 1);
     case LYRA2_REFUSED_ROWS:
         return set_number(&n->rows, side, LYRA2_ROWS_MIN - 1, LYRA2_ROWS_MAX + 1);
     case LYRA2_REFUSED_COLUMNS:

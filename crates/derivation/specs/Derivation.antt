@@ -18,7 +18,7 @@ use Rattle.key.specs.Key.{keyBytes}
 unfoldable pub setupEnd : Settings → List ℕ → List ℕ → Walk
 setupEnd S s m = walk (setup S (work s m)) (S .rows - 1) (order (S .rows - 3) .prev1)
 
--- after the last visit, for an input and what the matrix held before
+-- after the last visit, for an input and what the matrix held before; with T = 0 there is none, and this is what Setup leaves
 unfoldable pub walkEnd : Settings → Input → List ℕ → Walk
 walkEnd S x m = wander S (visitCount S) (setupEnd S (inputState S x) m)
 

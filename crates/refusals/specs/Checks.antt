@@ -39,7 +39,7 @@ rowsCheck R = range 5 3 16384 R
 unfoldable pub costChecks : Lengths → Parameters → List Check
 costChecks l p =
     range 1 1 1024 (l .key) ∷ range 2 0 1024 (l .password) ∷ range 3 8 64 (l .salt)
-    ∷ range 4 1 255 (p .time) ∷ rowsCheck (p .rows) ∷ range 6 1 256 (p .columns) ∷ []
+    ∷ range 4 0 255 (p .time) ∷ rowsCheck (p .rows) ∷ range 6 1 256 (p .columns) ∷ []
 
 -- the same and the words of the lent matrix
 unfoldable pub plainChecks : Lengths → Parameters → ℕ → List Check

@@ -60,7 +60,7 @@ pub fn cost_refusal(l: Lengths, p: Parameters) -> u32
 {
     let six = first_of(outside(1, MAX_COLUMNS, p.columns), COLUMN_COUNT, 0);
     let five = first_of(outside(MIN_ROWS, MAX_ROWS, p.rows), ROW_COUNT, six);
-    let four = first_of(outside(1, MAX_TIME, p.time), TIME_COST, five);
+    let four = first_of(outside(0, MAX_TIME, p.time), TIME_COST, five);
     let three = first_of(outside(MIN_SALT, MAX_SALT, l.salt), SALT_LENGTH, four);
     let two = first_of(outside(0, MAX_PASSWORD, l.password), PASSWORD_LENGTH, three);
     first_of(outside(1, MAX_KEY, l.key), KEY_LENGTH, two)

@@ -6,7 +6,8 @@ use crate::outcome::Outcome;
 use std::ffi::OsString;
 
 /// The cost parameters.
-pub const COSTS: &str = "  --time T              the time cost, 1 to 255
+pub const COSTS: &str = "  --time T              the time cost, 0 to 255; with 0 the matrix is filled and no visit is made, which
+                        leaves the least work to whoever guesses
   --rows R              the number of rows, 3 to 16384
   --columns C           the number of columns, 1 to 256; the matrix has 96*R*C bytes";
 

@@ -257,7 +257,7 @@ fn a_refusal_comes_before_any_memory_is_set_aside() {
     let zero = DERIVE.replace("--time 1", "--time 256");
     says(
         &zero,
-        "lyra2 derive: refused 4: the time cost T must be 1 to 255",
+        "lyra2 derive: refused 4: the time cost T must be 0 to 255",
     );
 }
 

@@ -38,6 +38,16 @@ fn the_lines_of_a_cost() {
     assert_eq!(output.lines().count(), 6);
 }
 
+#[test]
+fn the_cost_of_setup_alone() {
+    let output = cost(0, 100, 10);
+    let due =
+        "full calls: 2\nreduced calls: 1000\nrounds: 1024\nmatrix bytes: 96000\nrecord bytes: 0\n";
+    assert!(output.starts_with(due), "{output}");
+    let seconds = seconds(&output);
+    assert!(seconds > 0.0 && seconds < 1.0, "{seconds}");
+}
+
 /// Two thousand times as many reduced calls are expected to take longer. The bounds are wide, since the machine
 /// may be busy.
 #[test]

@@ -42,10 +42,14 @@ fn trial_of(t: u64, r: u64, c: u64, password: &[u8]) -> TemporaryFile {
 
 /// What the second program leaves.
 fn due(password: &[u8]) -> EndState {
+    due_of(T, password)
+}
+
+fn due_of(t: u64, password: &[u8]) -> EndState {
     let inputs = Inputs {
         password,
         salt: b"saltsalt",
-        t: T,
+        t,
         r: R,
         c: C,
     };
@@ -57,7 +61,7 @@ fn due(password: &[u8]) -> EndState {
     let recorded = recorded.expect("no check refuses");
     let counts = recorded.counts;
     EndState {
-        t: T,
+        t,
         r: R,
         c: C,
         key_length: KEY_LENGTH,
@@ -114,6 +118,33 @@ fn two_passwords_part_in_every_part() {
         "{run:?}"
     );
     assert!(lines[4].starts_with("record: parts at visit "), "{run:?}");
+}
+
+/// With T = 0 the record is empty, and equal in any two files; state and matrix tell the passwords apart.
+#[test]
+fn trials_without_visits() {
+    let file = trial_of(0, R, C, b"pass");
+    assert_eq!(file.bytes(), due_of(0, b"pass").write());
+    let again = trial_of(0, R, C, b"pass");
+    assert_eq!(compare(&file, &again).result(), "equal\n");
+
+    let run = compare(&file, &trial_of(0, R, C, b"word"));
+    let lines = differing(&run);
+    let [first, second] = [due_of(0, b"pass").state[0], due_of(0, b"word").state[0]];
+    let state = format!("word 0: {first:016x} and {second:016x}");
+    assert_eq!(lines[0], format!("different, first in the state: {state}"));
+    assert_eq!(lines[1], "header: equal");
+    assert_eq!(lines[2], format!("state: parts at {state}"));
+    assert!(
+        lines[3].starts_with("matrix: parts at row 0, column 0, word 0: "),
+        "{run:?}"
+    );
+    assert_eq!(lines[4], "record: equal");
+
+    let run = compare(&file, &trial(b"pass"));
+    let lines = differing(&run);
+    assert_eq!(lines[0], "different, first in the header: T: 0 and 2");
+    assert_eq!(lines[4], "record: not compared, since T, R or C differ");
 }
 
 /// The lines for end states that differ in one part at one place.
@@ -368,10 +399,13 @@ fn numbers_outside_their_limits() {
         ..end.clone()
     };
     for (other, words) in [
-        (with(0, R, C, 8), "T is 0 in its header; 1 to 255 is due"),
         (
             with(256, R, C, 8),
-            "T is 256 in its header; 1 to 255 is due",
+            "T is 256 in its header; 0 to 255 is due",
+        ),
+        (
+            with(1 << 32, R, C, 8),
+            "T is 4294967296 in its header; 0 to 255 is due",
         ),
         (with(T, 2, C, 8), "R is 2 in its header; 3 to 16384 is due"),
         (

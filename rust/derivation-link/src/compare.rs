@@ -73,7 +73,7 @@ fn draw_sizes(random: &mut Random) -> Sizes {
         key_len: random.between(1, 1024),
         password_len: random.between(0, 1024),
         salt_len: random.between(8, 64),
-        t: mostly_small(random, 1, [2, 9, 255]),
+        t: mostly_small(random, 0, [2, 9, 255]),
         r: mostly_small(random, 3, [12, 70, 600]),
         c: mostly_small(random, 1, [4, 20, 256]),
     };
@@ -109,7 +109,7 @@ fn spoil(random: &mut Random, sizes: &mut Sizes) {
         1 => given.key_len = pick(0, random.between(1025, 2000)),
         2 => given.password_len = random.between(1025, 2000),
         3 => given.salt_len = pick(random.between(0, 7), random.between(65, 200)),
-        4 => given.t = pick(0, random.between(256, u64::MAX)),
+        4 => given.t = pick(256, random.between(256, u64::MAX)),
         5 => given.r = pick(random.between(0, 2), random.between(16_385, u64::MAX)),
         6 => given.c = pick(0, random.between(257, u64::MAX)),
         7 => shorten(random, &mut sizes.matrix_words),

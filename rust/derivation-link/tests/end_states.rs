@@ -1,5 +1,5 @@
 //! The end states of recorded derivations: the state after the last visit, the used matrix and the used
-//! record.
+//! record. With T = 0 it is the state after Setup, and the record is empty.
 //!
 //! Two inputs whose padded inputs have equally many blocks, of which exactly one differs, must leave end
 //! states that differ in at least one part. One input must leave the same end state in all three parts,
@@ -13,7 +13,7 @@ use lyra2_reference::vectors::Subject;
 use lyra2_reference::{Inputs, Parameters};
 use std::collections::BTreeMap;
 
-const TIME_COSTS: [u64; 3] = [1, 2, 3];
+const TIME_COSTS: [u64; 4] = [0, 1, 2, 3];
 const ROWS: [u64; 6] = [3, 4, 5, 8, 19, 40];
 const COLUMNS: [u64; 4] = [1, 2, 5, 8];
 /// Pairs at each T, R and C.
@@ -289,6 +289,23 @@ fn two_inputs_whose_second_blocks_differ() {
         ..two_blocks()
     };
     assert_told_by_block(&other, 1);
+}
+
+/// Without visits the records are empty, and state and matrix alone tell two inputs apart.
+#[test]
+fn two_inputs_without_visits() {
+    let one = Input {
+        t: 0,
+        ..two_blocks()
+    };
+    let other = Input {
+        key_len: 33,
+        ..one.clone()
+    };
+    let [x, y] = [&one, &other].map(|input| end_state(input, &mut Buffers::filled(input, 0, 0)));
+    assert_eq!(differing_blocks(&one, &other), [1]);
+    assert_eq!([x.used_record.len(), y.used_record.len()], [0, 0]);
+    assert_eq!(differing_parts(&x, &y), ["state", "matrix"]);
 }
 
 /// The comparison above sees one changed bit in the last word of each part.

@@ -31,6 +31,9 @@ enum Fault {
     MatrixOnShortRecord,
     KeyOnShortRecord,
     ShortRecordRefusedWith7,
+    ZeroTimeRefused,
+    ZeroTimeAsOne,
+    Time256As255,
 }
 
 use Fault::*;
@@ -63,8 +66,8 @@ impl Subject for Faulty {
             (Ok(_), RecordedFirstMatrixWord) => matrix[0] ^= 1,
             (Ok(recorded), LastStateWord) => recorded.state[15] ^= 1,
             (Ok(recorded), RecordedRoundCount) => recorded.counts.rounds += 1,
-            (Ok(_), LastRecordWord) => record[used - 1] ^= 1,
-            (Ok(_), RowsExchanged) => record.swap(0, 1),
+            (Ok(_), LastRecordWord) if used > 0 => record[used - 1] ^= 1,
+            (Ok(_), RowsExchanged) if used > 0 => record.swap(0, 1),
             (Ok(_), WordPastRecord) => record[used..].iter_mut().take(1).for_each(|w| *w = 0),
             (Err(_), RecordOnRefusal) => record.fill(0),
             (Err(Refusal::RecordWords), MatrixOnShortRecord) => matrix.fill(0),
@@ -85,7 +88,13 @@ impl Subject for Faulty {
         matrix: &mut [u64],
     ) -> Result<Counts, Refusal> {
         let used = inputs.parameters(key.len()).matrix_words() as usize;
-        let mut answer = Proved.derive(inputs, key, matrix);
+        let t = match (self.0, inputs.t) {
+            (ZeroTimeRefused, 0) => 256,
+            (ZeroTimeAsOne, 0) => 1,
+            (Time256As255, 256) => 255,
+            (_, t) => t,
+        };
+        let mut answer = Proved.derive(&Inputs { t, ..*inputs }, key, matrix);
         match (&mut answer, self.0) {
             (Ok(_), LastKeyByte) => key[key.len() - 1] ^= 1,
             (Ok(_), LastMatrixWord) => matrix[used - 1] ^= 1,
@@ -159,6 +168,9 @@ fn every_fault_is_noticed() {
         MatrixOnShortRecord,
         KeyOnShortRecord,
         ShortRecordRefusedWith7,
+        ZeroTimeRefused,
+        ZeroTimeAsOne,
+        Time256As255,
     ] {
         let noticed = |seed: u64| compare(&Faulty(fault), seed).is_err();
         assert!((0..5000).any(noticed), "{fault:?}");

@@ -200,8 +200,12 @@ fn salt_lengths() {
 /// A call whose buffers fit exactly is accepted, and refused if one of them is a word shorter.
 fn assert_fits_exactly(call: Call) {
     assert_eq!(numbers(call), [0; 4], "{call:?}");
-    let (matrix, record) = (call.matrix - 1, call.record - 1);
+    let matrix = call.matrix - 1;
     assert_eq!(numbers(Call { matrix, ..call }), [7, 7, 7, 0], "{call:?}");
+    // Without visits the record has no word to be short of.
+    let Some(record) = call.record.checked_sub(1) else {
+        return;
+    };
     assert_eq!(numbers(Call { record, ..call }), [8, 0, 0, 0], "{call:?}");
     let both = Call {
         matrix,
@@ -213,10 +217,19 @@ fn assert_fits_exactly(call: Call) {
 
 #[test]
 fn time_costs() {
-    for t in [1, 2, 254, 255] {
+    for t in [0, 1, 2, 254, 255] {
         assert_fits_exactly(fitting(t, 3, 1));
     }
-    for t in [0, 256, 1 << 16 | 1, 1 << 32 | 1, MAX - 1, MAX] {
+    assert_fits_exactly(fitting(0, 40, 7));
+    for t in [
+        256,
+        1 << 16,
+        1 << 16 | 1,
+        1 << 32,
+        1 << 32 | 1,
+        MAX - 1,
+        MAX,
+    ] {
         assert_eq!(changed(|call| call.t = t), [4; 4]);
     }
 }
@@ -248,7 +261,7 @@ fn make_hold(call: &mut Call, number: u32, high: bool) {
         1 => call.key = pick(0, 1025) as usize,
         2 => call.password = 1025,
         3 => call.salt = pick(7, 65) as usize,
-        4 => call.t = pick(0, MAX),
+        4 => call.t = pick(256, MAX),
         5 => call.r = pick(2, MAX),
         6 => call.c = pick(0, MAX),
         7 => call.matrix = pick(0, 35) as usize,

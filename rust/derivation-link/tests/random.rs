@@ -10,12 +10,13 @@ const FIRST_SEED: u64 = 0x4c79_7261_3200;
 const COMPARISONS: u64 = 20_000;
 const QUESTIONS: u64 = 3_000;
 
-/// Lengths of key, password and salt of the accepted calls, and the refusals of the others.
+/// Lengths of key, password and salt and time costs of the accepted calls, and the refusals of the others.
 #[derive(Default)]
 struct Met {
     keys: BTreeSet<u64>,
     passwords: BTreeSet<u64>,
     salts: BTreeSet<u64>,
+    times: BTreeSet<u64>,
     refusals: BTreeSet<u8>,
 }
 
@@ -32,10 +33,12 @@ fn every_length_and_every_refusal_is_met_and_the_two_programs_agree() {
         met.keys.insert(compared.sizes.key_len);
         met.passwords.insert(compared.sizes.password_len);
         met.salts.insert(compared.sizes.salt_len);
+        met.times.insert(compared.sizes.t);
     }
     assert_eq!(met.keys, (1..=1024).collect());
     assert_eq!(met.passwords, (0..=1024).collect());
     assert_eq!(met.salts, (8..=64).collect());
+    assert!((0..=9).all(|t| met.times.contains(&t)));
     assert_eq!(met.refusals, (1..=8).collect());
 }
 

@@ -73,7 +73,8 @@ pub fn derive(input: Input, key: &mut [u8], matrix: &mut [u64], counts: &mut Cou
     }
 }
 
-/// The recorded derivation: also fills the used record, and `state` becomes the state after the last visit.
+/// The recorded derivation: also fills the used record, and `state` becomes the state after the last visit, or
+/// after Setup where T is 0.
 pub fn derive_recorded(
     input: Input,
     key: &mut [u8],

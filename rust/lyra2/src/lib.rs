@@ -49,7 +49,7 @@
 //! use lyra2::{cost, Lengths, Parameters, Refusal};
 //!
 //! let lengths = Lengths { key: 32, password: 8, salt: 7 };
-//! let parameters = Parameters { time: 0, rows: 64, columns: 16 };
+//! let parameters = Parameters { time: 256, rows: 64, columns: 16 };
 //! let refusal = cost(lengths, parameters).unwrap_err();
 //!
 //! assert_eq!(refusal, Refusal::SaltLength);

@@ -41,7 +41,7 @@ pub struct Checked {
 /// What a recorded derivation answers beside what it leaves in the lent buffers.
 #[derive(Clone, Copy, Debug, PartialEq, Eq)]
 pub struct Recorded {
-    /// The state after the last visit.
+    /// The state after the last visit, or after Setup where T is 0.
     pub state: [u64; STATE_WORDS],
     /// What was spent.
     pub counts: Counts,
@@ -74,6 +74,7 @@ pub fn derive(
 }
 
 /// The recorded derivation: as the plain one, and fills the used record with the rows and columns of each visit.
+/// With T = 0 there is no visit and no used record, so an empty one is enough.
 ///
 /// Words of the record past the used ones keep their contents. Refusals 1 to 8.
 ///

@@ -8,8 +8,8 @@ pub const KEY_LENGTHS: RangeInclusive<usize> = 1..=1024;
 pub const PASSWORD_LENGTHS: RangeInclusive<usize> = 0..=1024;
 /// Salt lengths in bytes that are accepted.
 pub const SALT_LENGTHS: RangeInclusive<usize> = 8..=64;
-/// Values of T that are accepted.
-pub const TIME_COSTS: RangeInclusive<usize> = 1..=255;
+/// Values of T that are accepted. With 0 the matrix is filled and no visit is made.
+pub const TIME_COSTS: RangeInclusive<usize> = 0..=255;
 /// Values of R that are accepted.
 pub const ROWS: RangeInclusive<usize> = 3..=16_384;
 /// Values of C that are accepted.
@@ -21,7 +21,8 @@ pub const CELL_WORDS: usize = 12;
 /// The cost parameters.
 #[derive(Clone, Copy, Debug, PartialEq, Eq)]
 pub struct Parameters {
-    /// The time cost T: R·T visits are made.
+    /// The time cost T: R·T visits are made after the matrix is filled, so none with 0, which leaves the least
+    /// work to whoever guesses.
     pub time: usize,
     /// The number of rows R.
     pub rows: usize,

@@ -13,7 +13,7 @@ pub enum Refusal {
     PasswordLength = 2,
     /// The salt length is outside its limits.
     SaltLength = 3,
-    /// T is outside its limits.
+    /// T is above its limit.
     TimeCost = 4,
     /// R is outside its limits.
     Rows = 5,

@@ -42,7 +42,7 @@ impl Inputs<'_> {
 /// What the recorded derivation returns beside the lent buffers.
 #[derive(Clone, Copy, Debug, PartialEq, Eq)]
 pub struct Recorded {
-    /// The state after the last visit.
+    /// The state after the last visit, or after Setup where T is 0.
     pub state: State,
     /// What was spent.
     pub counts: Counts,

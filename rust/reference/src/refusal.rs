@@ -11,7 +11,7 @@ pub const PASSWORD_LENGTHS: RangeInclusive<u64> = 0..=1024;
 /// Salt lengths in bytes that are accepted.
 pub const SALT_LENGTHS: RangeInclusive<u64> = 8..=64;
 /// Values of T that are accepted.
-pub const TIME_COSTS: RangeInclusive<u64> = 1..=255;
+pub const TIME_COSTS: RangeInclusive<u64> = 0..=255;
 /// Values of R that are accepted.
 pub const ROWS: RangeInclusive<u64> = 3..=16_384;
 /// Values of C that are accepted.
@@ -26,7 +26,7 @@ pub enum Refusal {
     PasswordLength = 2,
     /// The salt length is outside its limits.
     SaltLength = 3,
-    /// T is outside its limits.
+    /// T is above its limit.
     TimeCost = 4,
     /// R is outside its limits.
     Rows = 5,
@@ -73,7 +73,7 @@ impl fmt::Display for Refusal {
             Refusal::KeyLength => "the key length must be 1 to 1024 bytes",
             Refusal::PasswordLength => "the password must be at most 1024 bytes long",
             Refusal::SaltLength => "the salt must be 8 to 64 bytes long",
-            Refusal::TimeCost => "T must be 1 to 255",
+            Refusal::TimeCost => "T must be at most 255",
             Refusal::Rows => "R must be 3 to 16384",
             Refusal::Columns => "C must be 1 to 256",
             Refusal::MatrixWords => "the matrix must have at least 12*R*C words",

@@ -12,7 +12,8 @@ pub struct Rows {
     pub row1: Row,
 }
 
-/// Makes the visits, notes down each row and column number, and returns the rows of the last visit.
+/// Makes the visits, notes down each row and column number, and returns the rows of the last visit,
+/// or Setup's last rows where no visit is made.
 pub fn visit_all(
     sponge: &mut Sponge,
     matrix: &mut Matrix,

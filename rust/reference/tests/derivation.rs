@@ -12,7 +12,9 @@ struct End {
 }
 
 /// Shapes T, R and C that reach several windows of the Setup walk.
-const SHAPES: [(u64, u64, u64); 8] = [
+const SHAPES: [(u64, u64, u64); 10] = [
+    (0, 3, 1),
+    (0, 20, 7),
     (1, 3, 1),
     (1, 3, 4),
     (2, 4, 3),
@@ -129,8 +131,10 @@ fn state_matrix_and_record_give_the_key() {
     for (t, r, c) in SHAPES {
         let end = end(&inputs((t, r, c)), 200, 0, 0);
         let mut state = end.answer.state;
-        let last_visit = end.record.len() - (2 + 2 * c as usize);
-        let cell_start = (12 * end.record[last_visit] * c) as usize;
+        // Row 0 of the last visit; without visits it is the row that Setup filled last.
+        let visits = end.record.chunks(2 + 2 * c as usize);
+        let row0 = visits.last().map_or(r - 1, |visit| visit[0]);
+        let cell_start = (12 * row0 * c) as usize;
         let cell = &end.matrix[cell_start..cell_start + 12];
         for (state_word, cell_word) in state.iter_mut().zip(cell) {
             *state_word ^= cell_word;
@@ -194,7 +198,7 @@ fn every_input_changes_the_key() {
         ..base
     };
     keys.push(end(&moved, 32, 0, 0).key);
-    for (t, r, c) in [(2, 4, 2), (1, 5, 2), (1, 4, 3), (1, 8, 1)] {
+    for (t, r, c) in [(0, 4, 2), (2, 4, 2), (1, 5, 2), (1, 4, 3), (1, 8, 1)] {
         let inputs = Inputs { t, r, c, ..base };
         keys.push(end(&inputs, 32, 0, 0).key);
     }

@@ -148,3 +148,18 @@ fn extra_call_before_the_key() {
 fn first_xor_lost_where_both_rows_are_the_same() {
     assert!(told_apart(FirstXorLost) >= 500);
 }
+
+#[test]
+fn visits_and_last_cell_without_visits() {
+    for misreading in [OneVisitAtLeast, LastCellOfRow0, LastCellRevisited] {
+        let inputs = Inputs {
+            t: 0,
+            ..named(8, 5, 1)
+        };
+        assert_ne!(key(&inputs, misreading), right_key(&inputs));
+        // The derivations with visits are read rightly.
+        let inputs = named(8, 5, 1);
+        assert_eq!(key(&inputs, misreading), right_key(&inputs));
+        assert!(told_apart(misreading) >= 200, "{misreading:?}");
+    }
+}

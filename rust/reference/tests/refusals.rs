@@ -101,7 +101,15 @@ fn lengths_outside_their_limits() {
 #[test]
 fn numbers_outside_their_limits() {
     // Each list has values whose low 8, 16 or 32 bits would be accepted.
-    for t in [0, 256, 257, 1 << 16 | 1, 1 << 32 | 1, u64::MAX] {
+    for t in [
+        256,
+        257,
+        1 << 16,
+        1 << 16 | 1,
+        1 << 32,
+        1 << 32 | 1,
+        u64::MAX,
+    ] {
         assert_eq!(changed(|call| call.t = t), expected(4));
     }
     for r in [0, 1, 2, 16_385, 1 << 16 | 3, 1 << 32 | 3, u64::MAX] {
@@ -125,8 +133,10 @@ fn limits_themselves_are_accepted() {
     for salt_len in [8, 64] {
         assert_eq!(changed(|call| call.salt_len = salt_len), [0; 4]);
     }
-    let long = |call: &mut Call| (call.t, call.record_words) = (255, 255 * 12);
-    assert_eq!(changed(long), [0; 4]);
+    for (t, record_words) in [(0, 0), (0, 12), (255, 255 * 12)] {
+        let change = |call: &mut Call| (call.t, call.record_words) = (t, record_words);
+        assert_eq!(changed(change), [0; 4]);
+    }
     let high = |call: &mut Call| {
         (call.r, call.matrix_words, call.record_words) = (16_384, 196_608, 65_536)
     };
@@ -157,6 +167,8 @@ fn buffers_one_word_short() {
         short.record_words += 1;
         assert_eq!(answers(&short), expected(7));
     }
+    let setup_alone = |call: &mut Call| (call.t, call.matrix_words, call.record_words) = (0, 35, 0);
+    assert_eq!(changed(setup_alone), expected(7));
     assert_eq!(changed(|call| call.matrix_words = 0), expected(7));
     assert_eq!(changed(|call| call.record_words = 0), expected(8));
 }
@@ -168,7 +180,7 @@ fn make_hold(call: &mut Call, number: u8, high: bool) {
         1 => call.key_len = pick(0, 1025) as usize,
         2 => call.password_len = 1025,
         3 => call.salt_len = pick(7, 65) as usize,
-        4 => call.t = pick(0, u64::MAX),
+        4 => call.t = pick(256, u64::MAX),
         5 => call.r = pick(2, u64::MAX),
         6 => call.c = pick(0, u64::MAX),
         7 => call.matrix_words = pick(0, 35) as usize,

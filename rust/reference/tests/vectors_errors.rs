@@ -1,6 +1,6 @@
 //! Bad vectors files and bad arguments: one line says what is wrong and where.
 
-use lyra2_reference::vectors::read;
+use lyra2_reference::vectors::{read, Answer};
 use std::path::PathBuf;
 use std::process::{Command, Output};
 
@@ -130,6 +130,24 @@ fn states_have_sixteen_words() {
     let line = "case=1 op=derive_recorded key_len=1 password= salt_zeros=8 T=1 R=3 C=1 \
         matrix_words=36 record_words=12 refusal=0 key=00 state=0000000000000000,0000000000000001";
     assert_eq!(problem(line), "field state: 2 words where 16 are due");
+}
+
+#[test]
+fn no_words_are_an_empty_value() {
+    let zeros = ["0000000000000000"; 16].join(",");
+    let line = format!(
+        "case=1 op=derive_recorded key_len=1 password= salt_zeros=8 T=0 R=3 C=1 matrix_words=36 \
+         record_words=0 refusal=0 key=00 state={zeros} full=2 reduced=3 rounds=27 \
+         matrix_sum={sum} record_sum={sum} matrix={sum} record=",
+        sum = "0000000000000001"
+    );
+    let cases = read(format!("{line}\n").as_bytes()).unwrap();
+    let Answer::Recorded { in_full, .. } = &cases[0].1.answer else {
+        panic!("{cases:?}");
+    };
+    assert_eq!(*in_full, Some((vec![1], vec![])));
+    let comma = replaced(&line, "record=", "record=,");
+    assert_eq!(comma, "field record: '' is not sixteen digits long");
 }
 
 #[test]

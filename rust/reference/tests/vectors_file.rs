@@ -80,7 +80,7 @@ fn accepted_cases_cover_the_sizes() {
     let passwords = values(1);
     assert!(passwords.contains(&0) && passwords.contains(&1024));
     assert_eq!(values(2), (8..=64).collect());
-    assert_eq!(values(3), (1..=255).collect());
+    assert_eq!(values(3), (0..=255).collect());
     let rows = values(4);
     assert!((3..=80).all(|r| rows.contains(&r)));
     assert!(rows.contains(&16_383) && rows.contains(&16_384));

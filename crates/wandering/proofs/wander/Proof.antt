@@ -69,7 +69,10 @@ pub wander-spec : {M : Type 1} → statement M
 wander-spec =
     tie.close
     (tie.spec Inv-loop μ-loop
-    (λ c. rw (c .if1 .taken) (wandered-none _ _ (c .before .before .before .pre .0 .prev0-lt) (c .before .before .before .pre .0 .prev1-lt) _))
+    (λ c.
+    let start = c .before .before .before in
+    let none : start .args .n ≡ 0 = omega (arith, c .if1 .taken) in
+    rw none (wandered-none _ _ (start .pre .0 .prev0-lt) (start .pre .0 .prev1-lt) _))
     (λ c κs.
     let start = c .before .before .before .before .before .before in
     (start .pre .0, omega (arith, one-visit (start .args .n) (start .args .p) (omega (arith, c .before .before .before .if1 .left)) (start .pre .1))))

@@ -20,7 +20,7 @@ pub const COMMAND: Command = Command {
          counted from 0.",
         "The first place is first in time: the header, then the record, which the walk writes on its way,\n\
          then the state and the matrix, which it leaves. Where T, R or C differ, matrix and record are\n\
-         not compared.",
+         not compared. Where T is 0 both records are empty, and equal.",
         "docs/ACCEPTANCE.md says what equal end states settle, and docs/END-STATES.md describes the files.",
         "Exit status: 0 for equal, 1 for different, 2 for a file that cannot be read or is damaged.",
     ],

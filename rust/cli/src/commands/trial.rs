@@ -29,8 +29,9 @@ pub const COMMAND: Command = Command {
         "usage: lyra2 trial (--salt HEX | --salt-file FILE) --time T --rows R --columns C\n\
          \x20                  --key-length N --output FILE [--password-file FILE]",
         "Runs the recorded derivation, writes the state after its last visit, the used matrix and the used\n\
-         record to FILE, and prints the file's length and checksum. `lyra2 compare` compares two such\n\
-         files; docs/END-STATES.md describes them.",
+         record to FILE, and prints the file's length and checksum. With T = 0 there is no visit: the state\n\
+         is that after Setup, and the record is empty. `lyra2 compare` compares two such files;\n\
+         docs/END-STATES.md describes them.",
         "Whoever has the file can make the key, and often compute the password: use a password that opens\n\
          nothing.",
         "The file is written beside FILE, readable for its owner alone, and takes its name once it is whole:\n\

@@ -81,10 +81,10 @@ pub fn questions() -> Vec<Question> {
         time_costs(),
         corners(),
         large(),
-        spare_words(),
+        spare_words(11, &[(1, 3, 1), (2, 5, 3)]),
         plain_contents(),
-        plain_derivations(),
-        checks(),
+        plain_derivations(13, &a_few_shapes()),
+        checks(14, &a_few_shapes()),
         costs(),
         walks(),
         walk_programs(),
@@ -94,9 +94,7 @@ pub fn questions() -> Vec<Question> {
 
 /// Small derivations whose matrix and record are listed word by word.
 fn in_full() -> Vec<Question> {
-    let mut random = Random::new(1);
-    let mut questions = Vec::new();
-    for (t, r, c) in [
+    let sizes = [
         (1, 3, 1),
         (1, 3, 2),
         (1, 3, 3),
@@ -109,16 +107,22 @@ fn in_full() -> Vec<Question> {
         (1, 9, 1),
         (1, 17, 1),
         (3, 3, 4),
-    ] {
+    ];
+    listed_in_full(1, &sizes)
+}
+
+fn listed_in_full(seed: u64, sizes: &[(u64, u64, u64)]) -> Vec<Question> {
+    let mut random = Random::new(seed);
+    let listed = |&(t, r, c): &(u64, u64, u64)| {
         let shape = Shape { t, r, c, ..BASE };
-        questions.push(Question::DeriveRecorded {
+        Question::DeriveRecorded {
             given: shape.given(&mut random),
             key_len: shape.key_len,
             record_words: shape.parameters().record_words(),
             in_full: true,
-        });
-    }
-    questions
+        }
+    };
+    sizes.iter().map(listed).collect()
 }
 
 /// Password lengths on both sides of every change in the number of input blocks, for several salts.
@@ -244,11 +248,11 @@ fn large() -> Vec<Question> {
 }
 
 /// Lent buffers longer than the used parts.
-fn spare_words() -> Vec<Question> {
-    let mut random = Random::new(11);
+fn spare_words(seed: u64, sizes: &[(u64, u64, u64)]) -> Vec<Question> {
+    let mut random = Random::new(seed);
     let mut questions = Vec::new();
     for (matrix_spare, record_spare) in [(1, 0), (0, 1), (1, 1), (11, 7), (12, 8), (1000, 1000)] {
-        for (t, r, c) in [(1, 3, 1), (2, 5, 3)] {
+        for &(t, r, c) in sizes {
             let shape = Shape { t, r, c, ..BASE };
             let mut given = shape.given(&mut random);
             given.matrix_words += matrix_spare;
@@ -303,20 +307,20 @@ fn a_few_shapes() -> Vec<Shape> {
     shapes
 }
 
-fn plain_derivations() -> Vec<Question> {
-    let mut random = Random::new(13);
-    let derive = |shape: Shape| Question::Derive {
+fn plain_derivations(seed: u64, shapes: &[Shape]) -> Vec<Question> {
+    let mut random = Random::new(seed);
+    let derive = |shape: &Shape| Question::Derive {
         given: shape.given(&mut random),
         key_len: shape.key_len,
     };
-    a_few_shapes().into_iter().map(derive).collect()
+    shapes.iter().map(derive).collect()
 }
 
 /// The right key, and keys that differ from it in the first bit, in the last bit or everywhere.
-fn checks() -> Vec<Question> {
-    let mut random = Random::new(14);
+fn checks(seed: u64, shapes: &[Shape]) -> Vec<Question> {
+    let mut random = Random::new(seed);
     let mut questions = Vec::new();
-    for shape in a_few_shapes() {
+    for shape in shapes {
         let given = shape.given(&mut random);
         let key = derived_key(&given, shape.key_len);
         let mut first = key.clone();
@@ -407,4 +411,92 @@ fn walk_programs() -> Vec<Question> {
             input: format!("{r}\n").into_bytes(),
         })
         .collect()
+}
+
+/// The shape that the groups without visits vary.
+const SETUP_ALONE: Shape = Shape { t: 0, ..BASE };
+
+/// T = 0: Setup alone, an empty record.
+pub fn without_visits() -> Vec<Question> {
+    let in_full = [
+        (3, 1),
+        (3, 2),
+        (3, 3),
+        (4, 1),
+        (4, 2),
+        (5, 3),
+        (9, 1),
+        (17, 1),
+    ];
+    let plain = [(3, 1), (4, 2), (33, 4)].map(|(r, c)| Shape {
+        r,
+        c,
+        ..SETUP_ALONE
+    });
+    [
+        listed_in_full(15, &in_full.map(|(r, c)| (0, r, c))),
+        recorded_without_visits(),
+        spare_words(17, &[(0, 3, 1), (0, 5, 3)]),
+        plain_derivations(18, &plain),
+        checks(19, &plain),
+        costs_without_visits(),
+    ]
+    .concat()
+}
+
+/// Rows over the first windows and at the limit, columns, lengths around the edges, and random sizes.
+fn recorded_without_visits() -> Vec<Question> {
+    let mut random = Random::new(16);
+    let base = SETUP_ALONE;
+    let mut shapes = Vec::new();
+    for r in (3..=40).chain([63, 64, 65, 16_383, 16_384]) {
+        let c = 1 + r % 3;
+        shapes.push(Shape { r, c, ..base });
+    }
+    for c in [3, 7, 8, 127, 128, 255, 256] {
+        shapes.push(Shape { c, ..base });
+    }
+    for key_len in [1, 95, 96, 97, 191, 192, 193, 1023, 1024] {
+        shapes.push(Shape { key_len, ..base });
+    }
+    for salt_len in [8, 9, 63, 64] {
+        // The limits, and both sides of the lengths with which the input fills two or three blocks.
+        let (two, three) = (128 - 24 - salt_len, 192 - 24 - salt_len);
+        let edges = (two - 1..=two + 1).chain(three - 1..=three + 1);
+        for password_len in edges.chain([0, 1, 1023, 1024]) {
+            shapes.push(Shape {
+                password_len,
+                salt_len,
+                ..base
+            });
+        }
+    }
+    for _ in 0..100 {
+        shapes.push(Shape {
+            password_len: random.between(0, 200),
+            salt_len: random.between(8, 64),
+            key_len: random.between(1, 200),
+            r: random.between(3, 300),
+            c: random.between(1, 16),
+            ..base
+        });
+    }
+    let recorded = shapes.iter().map(|shape| shape.recorded(&mut random));
+    recorded.collect()
+}
+
+fn costs_without_visits() -> Vec<Question> {
+    let base = SETUP_ALONE.parameters();
+    let longest = Parameters {
+        key_len: 1024,
+        password_len: 1024,
+        salt_len: 64,
+        ..base
+    };
+    let mut given = Vec::new();
+    for (r, c) in [(3, 1), (3, 256), (16_384, 1), (16_384, 256)] {
+        given.push(Parameters { r, c, ..base });
+        given.push(Parameters { r, c, ..longest });
+    }
+    given.into_iter().map(Question::Cost).collect()
 }

@@ -115,7 +115,7 @@ pub enum Answer {
     Recorded {
         /// The key.
         key: Vec<u8>,
-        /// The state after the last visit.
+        /// The state after the last visit, or after Setup where T is 0.
         state: State,
         /// The three counts.
         counts: Counts,

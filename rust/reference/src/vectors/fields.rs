@@ -99,10 +99,11 @@ impl<'a> Fields<'a> {
         read_word(self.text(name)?).map_err(|what| Trouble::new(name, what))
     }
 
-    /// Takes out words, divided by commas.
+    /// Takes out words, divided by commas; an empty value is no words.
     pub fn words(&mut self, name: &str) -> Result<Vec<u64>, Trouble> {
-        let each = self.text(name)?.split(',').map(read_word);
-        let words: Result<_, _> = each.collect();
+        let value = self.text(name)?;
+        let each = value.split(',').filter(|_| !value.is_empty());
+        let words: Result<_, _> = each.map(read_word).collect();
         words.map_err(|what| Trouble::new(name, what))
     }
 

@@ -21,9 +21,16 @@ pub use read::{read, Problem};
 pub use run::Coverage;
 pub use subject::{Reference, Subject};
 
-/// The questions of the vectors file, in its order.
+/// The questions of the vectors file, in its order. What a later request adds stands last, so that the
+/// cases before it keep their numbers.
 pub fn chosen_questions() -> Vec<Question> {
-    [accepted::questions(), refused::questions()].concat()
+    [
+        accepted::questions(),
+        refused::questions(),
+        accepted::without_visits(),
+        refused::of_time_costs(),
+    ]
+    .concat()
 }
 
 /// The text of the vectors file. An error says which case the reference program failed, and how.

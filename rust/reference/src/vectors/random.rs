@@ -52,7 +52,7 @@ impl Random {
 pub fn question(random: &mut Random) -> Question {
     let password_len = random.mostly(0, 150, 1024, 8);
     let salt_len = random.between(8, 64);
-    let t = random.mostly(1, 3, 255, 200);
+    let t = random.mostly(0, 3, 255, 200);
     let r = random.mostly(3, 40, 700, 50);
     let c = random.mostly(1, 8, 256, 50);
     let mut given = Given {

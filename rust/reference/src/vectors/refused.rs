@@ -110,6 +110,7 @@ fn single() -> Vec<Question> {
     for salt_len in [0, 1, 6, 7, 65, 66, 264, 65_544] {
         calls.push((3, Sizes { salt_len, ..base }));
     }
+    // T = 0 was refused before request #101; its cases keep their places and are accepted.
     for t in [0, 256, 257, 1 << 16 | 1, 1 << 32 | 1, u64::MAX] {
         calls.push((4, Sizes { t, ..base }));
     }
@@ -193,7 +194,8 @@ fn largest_buffers() -> Vec<Question> {
     vec![one_short.recorded(), sizes.recorded(), longest.recorded()]
 }
 
-/// Makes a condition hold, from below or from above its limits.
+/// Makes a condition hold, from below or from above its limits. T = 0 makes 4 hold no longer; the cases
+/// with it keep their places, and the next condition is the first that holds.
 fn make_hold(sizes: &mut Sizes, number: u8, from_above: bool) {
     let pick = |below, above| if from_above { above } else { below };
     match number {
@@ -317,4 +319,32 @@ fn walk_programs() -> Vec<Question> {
         input: input.to_vec(),
     };
     REFUSED_INPUTS.map(question).to_vec()
+}
+
+/// Calls with T = 0 that another check refuses, and T above its limit alone and with every other condition.
+pub fn of_time_costs() -> Vec<Question> {
+    let setup_alone = Sizes {
+        t: 0,
+        record_words: 0,
+        ..FITTING
+    };
+    let mut questions = Vec::new();
+    for (number, from_above) in (1..=7).flat_map(|number| [(number, false), (number, true)]) {
+        if number != 4 {
+            let mut sizes = setup_alone;
+            make_hold(&mut sizes, number, from_above);
+            questions.extend(sizes.with_check(number));
+        }
+    }
+    // Those after 256 would pass if cut to 16 or 32 bits.
+    for t in [256, 1 << 16, 1 << 32] {
+        let above = Sizes { t, ..FITTING };
+        questions.extend(above.with_check(4));
+        for other in (1..=8).filter(|other| *other != 4) {
+            let mut sizes = above;
+            make_hold(&mut sizes, other, t == 256);
+            questions.extend(sizes.with_check(other.max(4)));
+        }
+    }
+    questions
 }

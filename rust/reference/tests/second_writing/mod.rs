@@ -20,6 +20,12 @@ pub enum Misreading {
     ExtraCall,
     /// Where row0 = row1, the second XOR starts from the cell as it was before the first.
     FirstXorLost,
+    /// With T = 0 a visit is made all the same.
+    OneVisitAtLeast,
+    /// With T = 0 the last cell is that of row 0.
+    LastCellOfRow0,
+    /// With T = 0 the last cell is that of the row that Setup revisited last.
+    LastCellRevisited,
 }
 
 use Misreading::*;
@@ -197,7 +203,7 @@ fn padded(inputs: &Inputs, misreading: Misreading) -> Vec<u8> {
     input
 }
 
-/// The derivation up to its last visit.
+/// The derivation up to its last visit, or to Setup's end where it has none.
 fn visited(inputs: &Inputs, misreading: Misreading) -> Derivation {
     let mut derivation = Derivation {
         misreading,
@@ -217,6 +223,12 @@ fn visited(inputs: &Inputs, misreading: Misreading) -> Derivation {
     }
     derivation.setup();
     (0..inputs.r * inputs.t).for_each(|_| derivation.visit());
+    match misreading {
+        OneVisitAtLeast if inputs.t == 0 => derivation.visit(),
+        LastCellOfRow0 if inputs.t == 0 => derivation.prev0 = 0,
+        LastCellRevisited if inputs.t == 0 => derivation.prev0 = derivation.prev1,
+        _ => (),
+    }
     derivation
 }
 
