@@ -1,6 +1,7 @@
--- The theorem's hypotheses can be met: trials of one block each, whose passwords differ. Assumes nothing.
+-- The theorem's hypotheses can be met, with visits and without: trials of one block each, whose passwords differ. Assumes nothing.
 use mathlib.Core.Path.{_≡_, refl, ap}
-use Prim.Native.Nat.{ℕ, zero, suc, _<_}
+use mathlib.Core.Logic.{_≢_}
+use Prim.Native.Nat.{ℕ, zero, suc, _<_, _*_}
 use native.Mathlib.Omega.{arith}
 use mathlib.Core.List.{List, [], _∷_}
 use lib.ListN.{getD, replicate}
@@ -16,61 +17,90 @@ use Rattle.derivation.specs.Derivation.{keyOf, endState, endMatrix, endRecord}
 use Rattle.derivation.specs.Contracts.{recordedNumber}
 use Rattle.derivation.proofs.Answering.{answered-yes, cost-yes}
 use Rattle.end_states.specs.EndStates.{AtMostOneDiffers}
-use Rattle.end_states.specs.Trials.{Trial, inputOf}
+use Rattle.end_states.specs.Trials.{Trial, inputOf, leftBy}
+use Rattle.end_states.proofs.Demand3.{end-states-settle-inputs}
 
--- T = 1, R = 3, C = 1
-abbrev pub least : Parameters
-least = record { time = 1; rows = 3; columns = 1 }
+-- R = 3, C = 1
+abbrev pub least : ℕ → Parameters
+least T = record { time = T; rows = 3; columns = 1 }
 
 pub zero-bytes : (n i : ℕ) → getD (replicate n 0) i 0 < 256
 zero-bytes zero i = omega arith
 zero-bytes (suc n) zero = omega arith
 zero-bytes (suc n) (suc i) = zero-bytes n i
 
--- a password of one byte, a salt of eight, a key of one, and buffers that just fit
-module _ (b : ℕ) (h : b < 256) where
-  abbrev x : Input
-  x = input (b ∷ []) (replicate 8 0) 1
+-- a password of one byte, a salt of eight, a key of one
+abbrev oneByte : ℕ → Input
+oneByte b = input (b ∷ []) (replicate 8 0) 1
 
-  pub taken : (recordedNumber least x (replicate 36 0) (replicate 12 0) ≡ 0) × (costs (lengths x) least .refusal ≡ 0)
-  unfolding first costChecks plainChecks recordedChecks costs spentOn
-  taken = (refl, refl)
+-- buffers that just fit are enough
+abbrev Taken : ℕ → ℕ → Type 0
+Taken T b = recordedNumber (least T) (oneByte b) (replicate 36 0) (replicate (12 * T) 0) ≡ 0
 
-  unfoldable pub trial : Trial least
+module _ (T b : ℕ) (h : b < 256) (taken : Taken T b) where
+  pub none-refuses : costs (lengths (oneByte b)) (least T) .refusal ≡ 0
+  unfolding costs spentOn
+  none-refuses = refl
+
+  unfoldable pub trial : Trial (least T)
   trial =
       record {
         password = b ∷ [];
         salt = replicate 8 0;
         key = replicate 1 0;
         matrix = replicate 36 0;
-        visited = replicate 12 0;
-        key′ = keyOf (settings least) x (replicate 36 0);
-        matrix′ = endMatrix (settings least) x (replicate 36 0);
-        visited′ = putInto (replicate 12 0) (endRecord (settings least) x (replicate 36 0));
-        costs = costs (lengths x) least;
-        state = endState (settings least) x (replicate 36 0);
+        visited = replicate (12 * T) 0;
+        key′ = keyOf (settings (least T)) (oneByte b) (replicate 36 0);
+        matrix′ = endMatrix (settings (least T)) (oneByte b) (replicate 36 0);
+        visited′ = putInto (replicate (12 * T) 0) (endRecord (settings (least T)) (oneByte b) (replicate 36 0));
+        costs = costs (lengths (oneByte b)) (least T);
+        state = endState (settings (least T)) (oneByte b) (replicate 36 0);
         meets =
             record {
-              answer = cost-yes (lengths x) least (taken .0) refl;
-              state-is = answered-yes _ _ (taken .0) refl;
-              key-after = answered-yes _ _ (taken .0) refl;
-              matrix-after = answered-yes _ _ (taken .0) refl;
-              visited-after = answered-yes _ _ (taken .0) refl;
+              answer = cost-yes (lengths (oneByte b)) (least T) taken refl;
+              state-is = answered-yes _ _ taken refl;
+              key-after = answered-yes _ _ taken refl;
+              matrix-after = answered-yes _ _ taken refl;
+              visited-after = answered-yes _ _ taken refl;
             };
-        accepted = taken .1;
+        accepted = none-refuses;
         password-bytes = λ i. elim i [ zero ↦ h | suc j ↦ omega arith ];
         salt-bytes = zero-bytes 8;
       }
 
 -- two of them have a block each, and their passwords differ where their bytes do
-module _ (b c : ℕ) (h : b < 256) (k : c < 256) where
-  pub blocks-apart : AtMostOneDiffers (settings least) 0 (inputOf (trial b h)) (inputOf (trial c k))
+module _ (T b c : ℕ) (h : b < 256) (k : c < 256) (taken₁ : Taken T b) (taken₂ : Taken T c) where
+  pub blocks-apart : AtMostOneDiffers (settings (least T)) 0 (inputOf (trial T b h taken₁)) (inputOf (trial T c k taken₂))
   unfolding inputBlocks blocks trial
   blocks-apart =
-      let one = length-padded-input (settings least) (inputOf (trial b h)) in
-      let other = length-padded-input (settings least) (inputOf (trial c k)) in
+      let one = length-padded-input (settings (least T)) (inputOf (trial T b h taken₁)) in
+      let other = length-padded-input (settings (least T)) (inputOf (trial T c k taken₂)) in
       record { as-many = omega (arith, one, other); others = λ i lt n. absurd (n (omega (arith, one))) }
 
-  pub passwords-tell-bytes : trial b h .password ≡ trial c k .password → b ≡ c
+  pub passwords-tell-bytes : trial T b h taken₁ .password ≡ trial T c k taken₂ .password → b ≡ c
   unfolding trial
   passwords-tell-bytes e = ap (λ (l : List ℕ). getD l 0 0) e
+
+-- ---- T = 1, with records of 12 words
+
+pub taken-1 : (b : ℕ) → Taken 1 b
+unfolding first costChecks plainChecks recordedChecks
+taken-1 b = refl
+
+-- ---- T = 0, with records of none: the returned states and the used matrices alone tell the inputs apart
+
+pub taken-0 : (b : ℕ) → Taken 0 b
+unfolding first costChecks plainChecks recordedChecks
+taken-0 b = refl
+
+module _ (b c : ℕ) (h : b < 256) (k : c < 256) where
+  pub no-record : leftBy (trial 0 b h (taken-0 b)) .visited ≡ []
+  no-record = refl
+
+  pub setup-tells-bytes : b ≢ c → leftBy (trial 0 b h (taken-0 b)) .state ≡ leftBy (trial 0 c k (taken-0 c)) .state
+      → leftBy (trial 0 b h (taken-0 b)) .matrix ≢ leftBy (trial 0 c k (taken-0 c)) .matrix
+  setup-tells-bytes apart states matrices =
+      apart
+      (passwords-tell-bytes 0 b c h k (taken-0 b) (taken-0 c)
+      (end-states-settle-inputs (least 0) 0 (trial 0 b h (taken-0 b)) (trial 0 c k (taken-0 c)) (blocks-apart 0 b c h k (taken-0 b) (taken-0 c)) .0
+      (record { states = states; matrices = matrices; records = refl }) .passwords))

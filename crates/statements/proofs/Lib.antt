@@ -2,3 +2,4 @@
 pub mod Cases
 pub mod Independence
 pub mod SameKey
+pub mod SetupAlone
