@@ -49,6 +49,12 @@ fn the_example_of_an_end_state_file() {
     let line = example.replace("--output example", &format!("--output {}", file.name()));
     let printed = lyra2(&words(&line), b"password").result();
     assert!(text.contains(&format!("prints `{}`", printed.trim_end())));
+    let line = line.replace("--time 1", "--time 0");
+    let without_visits = TemporaryFile::new();
+    let line = line.replace(file.name(), without_visits.name());
+    let printed = lyra2(&words(&line), b"password").result();
+    let same_trial = "With `--time 0` the same trial prints";
+    assert!(text.contains(&format!("{same_trial} `{}`", printed.trim_end())));
     let bytes = file.bytes();
     let shown = shown_bytes(&text);
     assert!(shown.len() >= 10);
