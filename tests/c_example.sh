@@ -32,6 +32,10 @@ same 'the example' "$(cat examples/derive_and_check.out)" "$(printf '%s' "$passw
 key=$(sed -n 's/^key: //p' examples/derive_and_check.out)
 same 'digits of the key' 64 "${#key}"
 grep -qF "$key" docs/LINKING.md || { echo 'docs/LINKING.md does not show the key'; exit 1; }
+setup_alone=$(printf '%s' "$password" | "$work/example" saltsalt 0 3 1 32)
+same 'the example with T = 0' "cost: 2 full calls, 3 reduced calls, 27 rounds, 288 bytes of matrix
+this key: yes
+with a bit changed: no" "$(grep -v '^key: ' <<<"$setup_alone")"
 
 refused() { # NUMBER SENTENCE ARGUMENT..
     local status=0 due="refused $1: $2"

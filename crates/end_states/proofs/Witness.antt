@@ -81,26 +81,32 @@ module _ (T b c : ℕ) (h : b < 256) (k : c < 256) (taken₁ : Taken T b) (taken
   unfolding trial
   passwords-tell-bytes e = ap (λ (l : List ℕ). getD l 0 0) e
 
--- ---- T = 1, with records of 12 words
+-- ---- T = 1, with records of 12 words, and T = 0, with records of none
 
 pub taken-1 : (b : ℕ) → Taken 1 b
 unfolding first costChecks plainChecks recordedChecks
 taken-1 b = refl
 
--- ---- T = 0, with records of none: the returned states and the used matrices alone tell the inputs apart
-
 pub taken-0 : (b : ℕ) → Taken 0 b
 unfolding first costChecks plainChecks recordedChecks
 taken-0 b = refl
 
-module _ (b c : ℕ) (h : b < 256) (k : c < 256) where
-  pub no-record : leftBy (trial 0 b h (taken-0 b)) .visited ≡ []
-  no-record = refl
+-- two trials without visits: a block at most differs, both used records are empty, the inputs differ, and so do the end states
+pub record WithoutVisits (x y : Trial (least 0)) : Type 0 where
+  pub apart : AtMostOneDiffers (settings (least 0)) 0 (inputOf x) (inputOf y)
+  pub no-records : (leftBy x .visited ≡ []) × (leftBy y .visited ≡ [])
+  pub inputs-differ : x .password ≢ y .password
+  pub ends-differ : leftBy x .state ≡ leftBy y .state → leftBy x .matrix ≢ leftBy y .matrix
 
-  pub setup-tells-bytes : b ≢ c → leftBy (trial 0 b h (taken-0 b)) .state ≡ leftBy (trial 0 c k (taken-0 c)) .state
-      → leftBy (trial 0 b h (taken-0 b)) .matrix ≢ leftBy (trial 0 c k (taken-0 c)) .matrix
-  setup-tells-bytes apart states matrices =
-      apart
-      (passwords-tell-bytes 0 b c h k (taken-0 b) (taken-0 c)
-      (end-states-settle-inputs (least 0) 0 (trial 0 b h (taken-0 b)) (trial 0 c k (taken-0 c)) (blocks-apart 0 b c h k (taken-0 b) (taken-0 c)) .0
-      (record { states = states; matrices = matrices; records = refl }) .passwords))
+pub without-visits : WithoutVisits (trial 0 0 (omega arith) (taken-0 0)) (trial 0 1 (omega arith) (taken-0 1))
+without-visits =
+    let x = trial 0 0 (omega arith) (taken-0 0) in
+    let y = trial 0 1 (omega arith) (taken-0 1) in
+    let apart = blocks-apart 0 0 1 (omega arith) (omega arith) (taken-0 0) (taken-0 1) in
+    let bytes = passwords-tell-bytes 0 0 1 (omega arith) (omega arith) (taken-0 0) (taken-0 1) in
+    record {
+      apart = apart;
+      no-records = (refl, refl);
+      inputs-differ = λ e. omega (arith, bytes e);
+      ends-differ = λ states matrices. let alike = end-states-settle-inputs (least 0) 0 x y apart .0 (record { states = states; matrices = matrices; records = refl }) in omega (arith, bytes (alike .passwords));
+    }
