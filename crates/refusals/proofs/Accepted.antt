@@ -45,6 +45,16 @@ module _ (c : Check) (cs : List Check) where
   unfolding first
   first-passed e = ap (λ (b : Bool). cond b (numberOf c) (first cs)) e
 
+-- no check, and a check before others, as `first_of` decides it
+pub first-none : 0 ≡ first []
+unfolding first
+first-none = refl
+
+pub first-of-is : (c : Check) (cs : List Check) {refused : Bool} {later r : ℕ} → refused ≡ refuses c → later ≡ first cs → r ≡ cond refused (numberOf c) later
+    → r ≡ first (c ∷ cs)
+unfolding first
+first-of-is c cs e f g = g ∙ (λ i. cond (e i) (numberOf c) (f i))
+
 -- the lists of the derivations
 module _ (l : Lengths) (p : Parameters) (m : ℕ) where
   pub plain-accepted : first (plainChecks l p m) ≡ 0 → Accepted (plainChecks l p m)

@@ -6,6 +6,7 @@ use native.Mathlib.Omega.{arith}
 use native.Mathlib.Nat.{zero-mul, zero-add}
 use mathlib.Core.List.{List}
 use lib.ListN.{length}
+use denote.Ref.{now}
 use Rattle.settings.specs.Settings.{settings}
 use Rattle.settings.specs.Sizes.{visitWords}
 use Rattle.settings.specs.declared.Parameters.{Parameters}
@@ -26,6 +27,21 @@ Inv-loop s₀ m₀ n p record₀ row0₀ row1₀ calls₀ at₀ k₀ s m «recor
 
 abbrev μ-loop : tie.MeasureT-loop
 μ-loop s₀ m₀ n p record₀ row0₀ row1₀ calls₀ at₀ k₀ s m «record» row0 row1 calls at k = n - k
+
+-- no visit: each part by itself, so that a wrong row is refused at `walked`
+returns : tie.Need-returns Inv-loop μ-loop
+returns c =
+    let start = c .before .before .before in
+    let a = start .args in
+    let none : a .n ≡ 0 = omega (arith, c .if1 .taken) in
+    let same = wandered-none (settings (a .p)) (walk (work (now (a .s)) (now (a .m))) (a .prev0 .0) (a .prev1 .0)) (start .pre .0 .prev0-lt) (start .pre .0 .prev1-lt) (now (a .«record»)) in
+    record {
+      counted = rw none (same .counted);
+      prev0-lt = omega (arith, start .pre .0 .prev0-lt, start .pre .0 .prev1-lt);
+      prev1-lt = omega (arith, start .pre .0 .prev0-lt, start .pre .0 .prev1-lt);
+      walked = rw none (same .walked);
+      noted = rw none (same .noted);
+    }
 
 visit-requires-2 : tie.Need-visit-requires-2 Inv-loop μ-loop
 visit-requires-2 c κs =
@@ -69,10 +85,7 @@ pub wander-spec : {M : Type 1} → statement M
 wander-spec =
     tie.close
     (tie.spec Inv-loop μ-loop
-    (λ c.
-    let start = c .before .before .before in
-    let none : start .args .n ≡ 0 = omega (arith, c .if1 .taken) in
-    rw none (wandered-none _ _ (start .pre .0 .prev0-lt) (start .pre .0 .prev1-lt) _))
+    returns
     (λ c κs.
     let start = c .before .before .before .before .before .before in
     (start .pre .0, omega (arith, one-visit (start .args .n) (start .args .p) (omega (arith, c .before .before .before .if1 .left)) (start .pre .1))))
