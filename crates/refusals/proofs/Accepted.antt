@@ -9,20 +9,25 @@ use lib.Dec.{ltb}
 use borrow.Author.Tests.{ltb-false}
 use Rattle.settings.specs.declared.Parameters.{Parameters}
 use Rattle.settings.specs.declared.Lengths.{Lengths}
-use Rattle.refusals.specs.Checks.{Check, range, atLeast, numberOf, refuses, first, Holds, Accepted, costChecks, plainChecks, recordedChecks}
+use Rattle.refusals.specs.Checks.{Bound, _≤?_, Check, atLeast, broken, refuses, first, Kept, Accepted, costChecks, plainChecks, recordedChecks}
 
 -- numbers above 0
 abbrev pub Numbered : List Check → Type 0
 Numbered [] = Unit {0}
-Numbered (c ∷ cs) = (0 < numberOf c) × Numbered cs
+Numbered (c ∷ cs) = (0 < c .number) × Numbered cs
 
-inside : (least most x : ℕ) (b : Bool) → ltb x least ≡ b → (b || ltb most x) ≡ false → (least ≤ x) × (x ≤ most)
-inside least most x true h f = absurd (true≢false f)
-inside least most x false h f = (ltb-false _ _ h, ltb-false _ _ f)
+neither : (t u : Bool) → (t || u) ≡ false → (t ≡ false) × (u ≡ false)
+neither true u e = absurd (true≢false e)
+neither false u e = (refl, e)
 
-pub holds : (c : Check) → refuses c ≡ false → Holds c
-holds (range number least most value) e = inside least most value (ltb value least) refl e
-holds (atLeast number least value) e = ltb-false _ _ e
+pub kept : (bounds : List Bound) → broken bounds ≡ false → Kept bounds
+kept [] e = tt
+kept (a ≤? b ∷ bounds) e = let p = neither (ltb b a) (broken bounds) e in (ltb-false _ _ (p .0), kept bounds (p .1))
+
+-- a bound by itself
+pub alone : (t : Bool) → t ≡ (t || false)
+alone true = refl
+alone false = refl
 
 -- a check with a number above 0 that does not refuse leaves the rest to decide
 passed : (b : Bool) (n r : ℕ) → 0 < n → cond b n r ≡ 0 → (b ≡ false) × (r ≡ 0)
@@ -33,27 +38,32 @@ pub accepted : (cs : List Check) → Numbered cs → first cs ≡ 0 → Accepted
 unfolding first
 accepted [] h e = tt
 accepted (c ∷ cs) h e =
-    let p = passed (refuses c) (numberOf c) (first cs) (h .0) e in (holds c (p .0), accepted cs (h .1) (p .1))
+    let p = passed (refuses c) (c .number) (first cs) (h .0) e in (kept (c .bounds) (p .0), accepted cs (h .1) (p .1))
 
 -- a check by itself
 module _ (c : Check) (cs : List Check) where
-  pub first-refused : refuses c ≡ true → first (c ∷ cs) ≡ numberOf c
+  pub first-refused : refuses c ≡ true → first (c ∷ cs) ≡ c .number
   unfolding first
-  first-refused e = ap (λ (b : Bool). cond b (numberOf c) (first cs)) e
+  first-refused e = ap (λ (b : Bool). cond b (c .number) (first cs)) e
 
   pub first-passed : refuses c ≡ false → first (c ∷ cs) ≡ first cs
   unfolding first
-  first-passed e = ap (λ (b : Bool). cond b (numberOf c) (first cs)) e
+  first-passed e = ap (λ (b : Bool). cond b (c .number) (first cs)) e
 
 -- no check, and a check before others, as `first_of` decides it
 pub first-none : 0 ≡ first []
 unfolding first
 first-none = refl
 
-pub first-of-is : (c : Check) (cs : List Check) {refused : Bool} {later r : ℕ} → refused ≡ refuses c → later ≡ first cs → r ≡ cond refused (numberOf c) later
+pub first-of-is : (c : Check) (cs : List Check) {refused : Bool} {later r : ℕ} → refused ≡ refuses c → r ≡ cond refused (c .number) later → later ≡ first cs
     → r ≡ first (c ∷ cs)
 unfolding first
-first-of-is c cs e f g = g ∙ (λ i. cond (e i) (numberOf c) (f i))
+first-of-is c cs e f g = f ∙ (λ i. cond (e i) (c .number) (g i))
+
+-- the same of a check with one bound, which the code tests in place
+pub first-below-is : (number least value : ℕ) (cs : List Check) {later r : ℕ} → r ≡ cond (ltb value least) number later → later ≡ first cs
+    → r ≡ first (atLeast number least value ∷ cs)
+first-below-is number least value cs f g = first-of-is (atLeast number least value) cs (alone (ltb value least)) f g
 
 -- the lists of the derivations
 module _ (l : Lengths) (p : Parameters) (m : ℕ) where
@@ -65,7 +75,7 @@ module _ (l : Lengths) (p : Parameters) (m : ℕ) where
   unfolding recordedChecks plainChecks costChecks
   recorded-accepted v e = let h = accepted (recordedChecks l p m v) (omega arith) e in omega arith
 
--- ---- one check more: what the code returns where an earlier check refused, and what where none did
+-- ---- more checks: what the code returns where an earlier check refused, and what where none did
 
 same-cond : (b : Bool) (n x y : ℕ) → (b ≡ false → x ≡ y) → cond b n x ≡ cond b n y
 same-cond true n x y h = refl
@@ -75,23 +85,22 @@ first-append-refuse : (cs ds : List Check) → (first cs ≡ 0 → ⊥) → firs
 unfolding first
 first-append-refuse [] ds h = absurd (h refl)
 first-append-refuse (c ∷ cs) ds h =
-    same-cond (refuses c) (numberOf c) (first (cs ++ ds)) (first cs)
-    (λ e. first-append-refuse cs ds (λ z. h (ap (λ (b : Bool). cond b (numberOf c) (first cs)) e ∙ z)))
+    same-cond (refuses c) (c .number) (first (cs ++ ds)) (first cs)
+    (λ e. first-append-refuse cs ds (λ z. h (ap (λ (b : Bool). cond b (c .number) (first cs)) e ∙ z)))
 
 first-append-pass : (cs ds : List Check) → Numbered cs → first cs ≡ 0 → first (cs ++ ds) ≡ first ds
 unfolding first
 first-append-pass [] ds h e = refl
 first-append-pass (c ∷ cs) ds h e =
-    let p = passed (refuses c) (numberOf c) (first cs) (h .0) e in
-    ap (λ (b : Bool). cond b (numberOf c) (first (cs ++ ds))) (p .0) ∙ first-append-pass cs ds (h .1) (p .1)
+    let p = passed (refuses c) (c .number) (first cs) (h .0) e in
+    ap (λ (b : Bool). cond b (c .number) (first (cs ++ ds))) (p .0) ∙ first-append-pass cs ds (h .1) (p .1)
 
-module _ (cs : List Check) (c : Check) (number : ℕ) (e : number ≡ first cs) where
-  pub more-refuse : (number ≡ 0 → ⊥) → number ≡ first (cs ++ (c ∷ []))
-  more-refuse h = e ∙ sym (first-append-refuse cs (c ∷ []) (λ z. h (e ∙ z)))
+module _ (cs ds : List Check) {number : ℕ} (e : number ≡ first cs) where
+  pub more-refuse : (number ≡ 0 → ⊥) → number ≡ first (cs ++ ds)
+  more-refuse h = e ∙ sym (first-append-refuse cs ds (λ z. h (e ∙ z)))
 
-  pub more-pass : Numbered cs → number ≡ 0 → (r : ℕ) → r ≡ cond (refuses c) (numberOf c) 0 → r ≡ first (cs ++ (c ∷ []))
-  unfolding first
-  more-pass h z r f = f ∙ sym (first-append-pass cs (c ∷ []) h (sym e ∙ z))
+  pub more-pass : Numbered cs → number ≡ 0 → {r : ℕ} → r ≡ first ds → r ≡ first (cs ++ ds)
+  more-pass h z f = f ∙ sym (first-append-pass cs ds h (sym e ∙ z))
 
 -- ---- products within the limits
 

@@ -1,6 +1,6 @@
--- The checks by number, and those that each operation has.
+-- The checks by number, and those that each operation has, in its order.
 use Prim.Native.Nat.{ℕ, _-_, _≤_}
-use mathlib.Core.Bool.{Bool, cond, _||_}
+use mathlib.Core.Bool.{Bool, false, cond, _||_}
 use mathlib.Core.List.{List, [], _∷_, _++_}
 use lib.Dec.{ltb}
 use Rattle.settings.specs.Settings.{settings}
@@ -8,56 +8,100 @@ use Rattle.settings.specs.Sizes.{matrixWords, recordWords}
 use Rattle.settings.specs.declared.Parameters.{Parameters}
 use Rattle.settings.specs.declared.Lengths.{Lengths}
 
--- a check has a number, and turns a call down where a value is not least to most, or is below the least
-pub data Check : Type 0 where
-  range : (number least most value : ℕ) → Check
-  atLeast : (number least value : ℕ) → Check
+-- ---- a check: its number, and the bounds that a call has to keep
 
-abbrev pub numberOf : Check → ℕ
-numberOf (range number least most value) = number
-numberOf (atLeast number least value) = number
+-- the first number is at most the second
+infixl 70 _≤?_
+pub data Bound : Type 0 where
+  _≤?_ : ℕ → ℕ → Bound
 
--- x is not least to most
-abbrev pub outside : ℕ → ℕ → ℕ → Bool
-outside least most x = ltb x least || ltb most x
+pub record Check : Type 0 where
+  pub number : ℕ
+  pub bounds : List Bound
+
+abbrev pub between : ℕ → ℕ → ℕ → List Bound
+between least most value = least ≤? value ∷ value ≤? most ∷ []
+
+-- a value is least to most, or no less than the least
+abbrev pub range : ℕ → ℕ → ℕ → ℕ → Check
+range number least most value = record { number = number; bounds = between least most value }
+
+abbrev pub atLeast : ℕ → ℕ → ℕ → Check
+atLeast number least value = record { number = number; bounds = least ≤? value ∷ [] }
+
+-- ---- which check turns a call down
+
+-- one of the bounds is not kept
+abbrev pub broken : List Bound → Bool
+broken [] = false
+broken (a ≤? b ∷ bounds) = ltb b a || broken bounds
 
 abbrev pub refuses : Check → Bool
-refuses (range number least most value) = outside least most value
-refuses (atLeast number least value) = ltb value least
+refuses c = broken (c .bounds)
 
 -- the number of the first check that refuses, 0 where none does
 unfoldable pub first : List Check → ℕ
 first [] = 0
-first (c ∷ cs) = cond (refuses c) (numberOf c) (first cs)
-
--- ---- the operations: the cost question, the plain derivation and the check, the recorded derivation, the walk question
-
--- R alone is what the walk program asks
-abbrev pub rowsCheck : ℕ → Check
-rowsCheck R = range 5 3 16384 R
-
-unfoldable pub costChecks : Lengths → Parameters → List Check
-costChecks l p =
-    range 1 1 1024 (l .key) ∷ range 2 0 1024 (l .password) ∷ range 3 8 64 (l .salt)
-    ∷ range 4 0 255 (p .time) ∷ rowsCheck (p .rows) ∷ range 6 1 256 (p .columns) ∷ []
-
--- the same and the words of the lent matrix
-unfoldable pub plainChecks : Lengths → Parameters → ℕ → List Check
-plainChecks l p matrix = costChecks l p ++ (atLeast 7 (matrixWords (settings p)) matrix ∷ [])
-
--- the same and the words of the lent record
-unfoldable pub recordedChecks : Lengths → Parameters → ℕ → ℕ → List Check
-recordedChecks l p matrix visited = plainChecks l p matrix ++ (atLeast 8 (recordWords (settings p)) visited ∷ [])
-
-unfoldable pub walkChecks : ℕ → ℕ → List Check
-walkChecks R row0 = rowsCheck R ∷ range 9 3 (R - 1) row0 ∷ []
+first (c ∷ cs) = cond (refuses c) (c .number) (first cs)
 
 -- ---- what is so where no check refuses
 
-abbrev pub Holds : Check → Type 0
-Holds (range number least most value) = (least ≤ value) × (value ≤ most)
-Holds (atLeast number least value) = least ≤ value
+abbrev pub Kept : List Bound → Type 0
+Kept [] = Unit {0}
+Kept (a ≤? b ∷ bounds) = (a ≤ b) × Kept bounds
 
 abbrev pub Accepted : List Check → Type 0
 Accepted [] = Unit {0}
-Accepted (c ∷ cs) = Holds c × Accepted cs
+Accepted (c ∷ cs) = Kept (c .bounds) × Accepted cs
+
+-- ---- the table: each check by its number, with its limits
+
+abbrev pub keyCheck : ℕ → Check
+keyCheck = range 1 1 1024
+
+abbrev pub passwordCheck : ℕ → Check
+passwordCheck = range 2 0 1024
+
+abbrev pub shortSaltCheck : ℕ → Check
+shortSaltCheck = atLeast 3 8
+
+abbrev pub longSaltCheck : ℕ → Check
+longSaltCheck = range 10 0 64
+
+abbrev pub timeCheck : ℕ → Check
+timeCheck = range 4 0 255
+
+abbrev pub rowsCheck : ℕ → Check
+rowsCheck = range 5 3 16384
+
+abbrev pub columnsCheck : ℕ → Check
+columnsCheck = range 6 1 256
+
+abbrev pub matrixCheck : Parameters → ℕ → Check
+matrixCheck p = atLeast 7 (matrixWords (settings p))
+
+abbrev pub recordCheck : Parameters → ℕ → Check
+recordCheck p = atLeast 8 (recordWords (settings p))
+
+abbrev pub setupRowCheck : ℕ → ℕ → Check
+setupRowCheck R = range 9 3 (R - 1)
+
+-- ---- the operations, each with its checks in their order
+
+-- the cost question
+unfoldable pub costChecks : Lengths → Parameters → List Check
+costChecks l p =
+    keyCheck (l .key) ∷ passwordCheck (l .password) ∷ shortSaltCheck (l .salt) ∷ longSaltCheck (l .salt)
+    ∷ timeCheck (p .time) ∷ rowsCheck (p .rows) ∷ columnsCheck (p .columns) ∷ []
+
+-- the plain derivation and the check of a key: the words of the lent matrix too
+unfoldable pub plainChecks : Lengths → Parameters → ℕ → List Check
+plainChecks l p matrix = costChecks l p ++ (matrixCheck p matrix ∷ [])
+
+-- the recorded derivation: the words of the lent record too
+unfoldable pub recordedChecks : Lengths → Parameters → ℕ → ℕ → List Check
+recordedChecks l p matrix visited = plainChecks l p matrix ++ (recordCheck p visited ∷ [])
+
+-- the walk question; R alone is what the walk program asks
+unfoldable pub walkChecks : ℕ → ℕ → List Check
+walkChecks R row0 = rowsCheck R ∷ setupRowCheck R row0 ∷ []

@@ -1,17 +1,16 @@
-// When a call is turned down: each check by its number, in the order of the numbers. 0 is no refusal.
+// When a call is turned down: the number of the first check that refuses, in the operation's order. 0 is no refusal.
 use settings::Lengths;
 use settings::Parameters;
 ghost use mathlib.Core.Path.{_≡_};
 ghost use mathlib.Core.Bool.{cond};
 ghost use mathlib.Core.List.{[], _∷_};
-ghost use Prim.Native.Nat.{_<_};
-ghost use Rattle.refusals.specs.Checks.{first, outside as «is-outside», costChecks, walkChecks, rowsCheck};
+ghost use Rattle.refusals.specs.Checks.{first, broken, between, costChecks, walkChecks, rowsCheck};
 
 pub const KEY_LENGTH: u32 = 1;
 
 pub const PASSWORD_LENGTH: u32 = 2;
 
-pub const SALT_LENGTH: u32 = 3;
+pub const SALT_TOO_SHORT: u32 = 3;
 
 pub const TIME_COST: u32 = 4;
 
@@ -24,6 +23,8 @@ pub const MATRIX_LENGTH: u32 = 7;
 pub const RECORD_LENGTH: u32 = 8;
 
 pub const SETUP_ROW: u32 = 9;
+
+pub const SALT_TOO_LONG: u32 = 10;
 
 pub const MAX_KEY: usize = 1024;
 
@@ -42,7 +43,7 @@ pub const MAX_ROWS: usize = 16384;
 pub const MAX_COLUMNS: usize = 256;
 
 pub fn outside(least: usize, most: usize, x: usize) -> bool
-    ensures { λ r. ⌜ r ≡ «is-outside» least most x ⌝ }
+    ensures { λ r. ⌜ r ≡ broken (between least most x) ⌝ }
 {
     x < least || most < x
 }
@@ -54,16 +55,17 @@ pub fn first_of(refuses: bool, number: u32, later: u32) -> u32
     if refuses { number } else { later }
 }
 
-// Checks 1 to 6, of the lengths, T, R and C.
+// The checks of the lengths, T, R and C, the last of them first: each says what the later ones leave to it.
 pub fn cost_refusal(l: Lengths, p: Parameters) -> u32
     ensures { λ r. ⌜ r ≡ first (costChecks l p) ⌝ }
 {
-    let six = first_of(outside(1, MAX_COLUMNS, p.columns), COLUMN_COUNT, 0);
-    let five = first_of(outside(MIN_ROWS, MAX_ROWS, p.rows), ROW_COUNT, six);
-    let four = first_of(outside(0, MAX_TIME, p.time), TIME_COST, five);
-    let three = first_of(outside(MIN_SALT, MAX_SALT, l.salt), SALT_LENGTH, four);
-    let two = first_of(outside(0, MAX_PASSWORD, l.password), PASSWORD_LENGTH, three);
-    first_of(outside(1, MAX_KEY, l.key), KEY_LENGTH, two)
+    let later = first_of(outside(1, MAX_COLUMNS, p.columns), COLUMN_COUNT, 0);
+    let later = first_of(outside(MIN_ROWS, MAX_ROWS, p.rows), ROW_COUNT, later);
+    let later = first_of(outside(0, MAX_TIME, p.time), TIME_COST, later);
+    let later = first_of(outside(0, MAX_SALT, l.salt), SALT_TOO_LONG, later);
+    let later = first_of(l.salt < MIN_SALT, SALT_TOO_SHORT, later);
+    let later = first_of(outside(0, MAX_PASSWORD, l.password), PASSWORD_LENGTH, later);
+    first_of(outside(1, MAX_KEY, l.key), KEY_LENGTH, later)
 }
 
 // Check 5 alone, of R: what the walk program asks.

@@ -1,4 +1,4 @@
-// Checks 7 and 8, of the room in lent memory, after those of the cost question.
+// The checks of the room in lent memory, after those of the cost question.
 use profile::Profile;
 use refusals::MATRIX_LENGTH;
 use refusals::RECORD_LENGTH;
@@ -19,7 +19,7 @@ fn matrix_words(cells: usize) -> usize
     Profile::CELL_WORDS * cells
 }
 
-// Checks 1 to 7, of the same and of the lent matrix's length.
+// The checks of the cost question, then the length of the lent matrix.
 pub fn plain_refusal(l: Lengths, p: Parameters, matrix: usize) -> u32
     ensures { λ r. ⌜ r ≡ first (plainChecks l p matrix) ⌝ }
 {
@@ -39,7 +39,7 @@ fn record_words(n: usize, columns: usize) -> usize
     n * visit
 }
 
-// Checks 1 to 8, of the same and of the lent record's length.
+// The same, then the length of the lent record.
 pub fn recorded_refusal(l: Lengths, p: Parameters, matrix: usize, record: usize) -> u32
     ensures { λ r. ⌜ r ≡ first (recordedChecks l p matrix «record») ⌝ }
 {

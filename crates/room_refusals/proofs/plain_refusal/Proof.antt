@@ -1,15 +1,14 @@
 -- `plain_refusal` meets its contract: the checks of the cost question, then that of the matrix. Assumes nothing.
 use mathlib.Core.Path.{_≡_, sym, ap, _∙_}
 use mathlib.Core.Bool.{cond}
+use mathlib.Core.List.{[], _∷_}
 use Prim.Native.Nat.{ℕ, _*_, _≤_}
 use lib.Dec.{ltb}
 use native.Mathlib.Omega.{arith}
-use Rattle.settings.specs.Settings.{settings}
-use Rattle.settings.specs.Sizes.{matrixWords}
 use Rattle.settings.specs.declared.Parameters.{Parameters}
 use Rattle.settings.specs.declared.Lengths.{Lengths}
-use Rattle.refusals.specs.Checks.{atLeast, first, costChecks, plainChecks}
-use Rattle.refusals.proofs.Accepted.{accepted, more-refuse, more-pass, cells-most}
+use Rattle.refusals.specs.Checks.{matrixCheck, first, costChecks, plainChecks}
+use Rattle.refusals.proofs.Accepted.{accepted, first-none, first-below-is, more-refuse, more-pass, cells-most}
 use Rattle.room_refusals.proofs.plain_refusal.Statement.{statement}
 use Rattle.room_refusals.proofs.plain_refusal.Tie as tie
 
@@ -24,15 +23,15 @@ returns : tie.Need-returns
 unfolding plainChecks
 returns c =
     let a = c .before .before .args in
-    more-refuse (costChecks (a .l) (a .p)) (atLeast 7 (matrixWords (settings (a .p))) (a .matrix)) _ (c .before .cost-refusal .ensures) (c .if1 .taken)
+    more-refuse (costChecks (a .l) (a .p)) (matrixCheck (a .p) (a .matrix) ∷ []) (c .before .cost-refusal .ensures) (c .if1 .taken)
 
 returns-2 : tie.Need-returns-2
 unfolding plainChecks costChecks
 returns-2 c =
     let a = c .before .before .before .before .before .args in
-    more-pass (costChecks (a .l) (a .p)) (atLeast 7 (matrixWords (settings (a .p))) (a .matrix)) _ (c .before .before .before .before .cost-refusal .ensures)
-    (omega arith) (c .before .before .before .if1 .left) _
-    (c .first-of .ensures ∙ ap (λ (n : ℕ). cond (ltb (a .matrix) n) 7 0) (c .before .matrix-words .ensures))
+    more-pass (costChecks (a .l) (a .p)) (matrixCheck (a .p) (a .matrix) ∷ []) (c .before .before .before .before .cost-refusal .ensures)
+    (omega arith) (c .before .before .before .if1 .left)
+    (first-below-is _ _ _ _ (c .first-of .ensures ∙ ap (λ (n : ℕ). cond (ltb (a .matrix) n) 7 0) (c .before .matrix-words .ensures)) first-none)
 
 pub plain-refusal-spec : {M : Type 1} → statement M
 plain-refusal-spec =

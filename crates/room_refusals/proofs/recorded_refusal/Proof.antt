@@ -1,15 +1,14 @@
 -- `recorded_refusal` meets its contract: the checks of the plain derivation, then that of the record. Assumes nothing.
 use mathlib.Core.Path.{_≡_, sym, ap, _∙_}
 use mathlib.Core.Bool.{cond}
+use mathlib.Core.List.{[], _∷_}
 use Prim.Native.Nat.{ℕ, _+_, _*_, _≤_}
 use lib.Dec.{ltb}
 use native.Mathlib.Omega.{arith}
-use Rattle.settings.specs.Settings.{settings}
-use Rattle.settings.specs.Sizes.{recordWords}
 use Rattle.settings.specs.declared.Parameters.{Parameters}
 use Rattle.settings.specs.declared.Lengths.{Lengths}
-use Rattle.refusals.specs.Checks.{atLeast, first, costChecks, plainChecks, recordedChecks}
-use Rattle.refusals.proofs.Accepted.{accepted, more-refuse, more-pass, record-most, visits-most}
+use Rattle.refusals.specs.Checks.{recordCheck, first, costChecks, plainChecks, recordedChecks}
+use Rattle.refusals.proofs.Accepted.{accepted, first-none, first-below-is, more-refuse, more-pass, record-most, visits-most}
 use Rattle.room_refusals.proofs.recorded_refusal.Statement.{statement}
 use Rattle.room_refusals.proofs.recorded_refusal.Tie as tie
 
@@ -25,15 +24,15 @@ returns : tie.Need-returns
 unfolding recordedChecks
 returns c =
     let a = c .before .before .args in
-    more-refuse (plainChecks (a .l) (a .p) (a .matrix)) (atLeast 8 (recordWords (settings (a .p))) (a .«record»)) _ (c .before .plain-refusal .ensures) (c .if1 .taken)
+    more-refuse (plainChecks (a .l) (a .p) (a .matrix)) (recordCheck (a .p) (a .«record») ∷ []) (c .before .plain-refusal .ensures) (c .if1 .taken)
 
 returns-2 : tie.Need-returns-2
 unfolding recordedChecks plainChecks costChecks
 returns-2 c =
     let a = c .before .before .before .before .before .args in
-    more-pass (plainChecks (a .l) (a .p) (a .matrix)) (atLeast 8 (recordWords (settings (a .p))) (a .«record»)) _ (c .before .before .before .before .plain-refusal .ensures)
-    (omega arith) (c .before .before .before .if1 .left) _
-    (c .first-of .ensures ∙ ap (λ (n : ℕ). cond (ltb (a .«record») n) 8 0) (c .before .record-words .ensures))
+    more-pass (plainChecks (a .l) (a .p) (a .matrix)) (recordCheck (a .p) (a .«record») ∷ []) (c .before .before .before .before .plain-refusal .ensures)
+    (omega arith) (c .before .before .before .if1 .left)
+    (first-below-is _ _ _ _ (c .first-of .ensures ∙ ap (λ (n : ℕ). cond (ltb (a .«record») n) 8 0) (c .before .record-words .ensures)) first-none)
 
 pub recorded-refusal-spec : {M : Type 1} → statement M
 recorded-refusal-spec =
