@@ -1,7 +1,8 @@
 /*
  * Lyra2 key derivation: the C interface of the proved library (C99, C++11; link libderivation_export.a).
  *
- * Answer        Every call returns LYRA2_ACCEPTED or the number of a refusal. Of several that apply it is the lowest.
+ * Answer        Every call returns LYRA2_ACCEPTED or the number of a refusal. Of several that apply it is the first in
+ *               the call's order, which enum lyra2_refusal gives.
  * Memory        The caller lends all of it. There is no heap and no global state, nothing to set up, nothing to free.
  * Written       Accepted: what the declaration says, and nothing else. Refused: the answer's fields, which are `same`,
  *               the counts, the state and `row1`, become 0; nothing else that is lent is read or written.
@@ -62,18 +63,25 @@ extern "C" {
 #define LYRA2_MATRIX_WORDS(rows, columns) (UINT64_C(1) * LYRA2_CELL_WORDS * (rows) * (columns))
 #define LYRA2_RECORD_WORDS(time, rows, columns) (UINT64_C(1) * (rows) * (time) * (UINT64_C(2) * (columns) + 2))
 
-/* The refusals. The recorded derivation has 1 to 8, derivation and check 1 to 7, cost 1 to 6, walk 5 and 9. */
+/*
+ * The refusals. A call tests them in this order, which is not that of the numbers everywhere:
+ *     lyra2_derive_recorded        1, 2, 3, 10, 4, 5, 6, 7, 8
+ *     lyra2_derive, lyra2_check    1, 2, 3, 10, 4, 5, 6, 7
+ *     lyra2_cost                   1, 2, 3, 10, 4, 5, 6
+ *     lyra2_walk                   5, 9
+ */
 enum lyra2_refusal {
     LYRA2_ACCEPTED = 0,
     LYRA2_REFUSED_KEY = 1,
     LYRA2_REFUSED_PASSWORD = 2,
-    LYRA2_REFUSED_SALT = 3,
+    LYRA2_REFUSED_SALT_TOO_SHORT = 3,
     LYRA2_REFUSED_TIME = 4,
     LYRA2_REFUSED_ROWS = 5,
     LYRA2_REFUSED_COLUMNS = 6,
     LYRA2_REFUSED_MATRIX = 7,
     LYRA2_REFUSED_RECORD = 8,
-    LYRA2_REFUSED_ROW0 = 9
+    LYRA2_REFUSED_ROW0 = 9,
+    LYRA2_REFUSED_SALT_TOO_LONG = 10
 };
 
 /* What an answer says, in words. */
@@ -83,13 +91,14 @@ static inline const char *lyra2_sentence(uint32_t answer)
     case LYRA2_ACCEPTED: return "the call was carried out";
     case LYRA2_REFUSED_KEY: return "the key has to have 1 to 1024 bytes";
     case LYRA2_REFUSED_PASSWORD: return "the password may have at most 1024 bytes";
-    case LYRA2_REFUSED_SALT: return "the salt has to have 8 to 64 bytes";
+    case LYRA2_REFUSED_SALT_TOO_SHORT: return "the salt has to have at least 8 bytes";
     case LYRA2_REFUSED_TIME: return "the time cost may be at most 255";
     case LYRA2_REFUSED_ROWS: return "the number of rows has to be 3 to 16384";
     case LYRA2_REFUSED_COLUMNS: return "the number of columns has to be 1 to 256";
     case LYRA2_REFUSED_MATRIX: return "the lent matrix is too short for the rows and columns";
     case LYRA2_REFUSED_RECORD: return "the lent record is too short for the time cost, rows and columns";
     case LYRA2_REFUSED_ROW0: return "Setup revisits a row only for row 3 to the last";
+    case LYRA2_REFUSED_SALT_TOO_LONG: return "the salt may have at most 64 bytes";
     default: return "no answer has this number";
     }
 }

@@ -48,8 +48,9 @@ printf '%s' "$password" >"$work/password"
 for length in 0 1025 18446744073709551615; do
     refused 1 'the key has to have 1 to 1024 bytes' saltsalt 1 3 1 $length
 done
-refused 3 'the salt has to have 8 to 64 bytes' saltsal 1 3 1 32
-refused 3 'the salt has to have 8 to 64 bytes' "$(printf '%065d' 0)" 1 3 1 32
+refused 3 'the salt has to have at least 8 bytes' saltsal 1 3 1 32
+refused 10 'the salt may have at most 64 bytes' "$(printf '%065d' 0)" 1 3 1 32
+refused 10 'the salt may have at most 64 bytes' "$(printf '%065d' 0)" 256 2 0 32
 for time in 256 99999999999999999999; do
     refused 4 'the time cost may be at most 255' saltsalt $time 3 1 32
 done

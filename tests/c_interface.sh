@@ -58,7 +58,9 @@ s/ROW0_MIN 3/ROW0_MIN 4/
 s/CELL_WORDS 12/CELL_WORDS 11/
 s/(columns) + 2))/(columns) + 1))/
 s/REFUSED_ROWS = 5/REFUSED_ROWS = 6/; s/REFUSED_COLUMNS = 6/REFUSED_COLUMNS = 5/
-s/8 to 64 bytes/8 to 65 bytes/
+s/TOO_SHORT = 3/TOO_SHORT = 10/; s/TOO_LONG = 10/TOO_LONG = 3/
+s/at least 8 bytes/at least 9 bytes/
+s/at most 64 bytes/at most 65 bytes/
 END
 
 # ---- wrong vectors: the first accepted line of an operation with one field spoilt
@@ -93,7 +95,7 @@ for program in limits refusals; do
     build_faulty 0 $program
     "$work/faulty" >"$work/log" 2>&1 || { cat "$work/log"; echo 'the wrapped library without a fault fails'; exit 1; }
 done
-for fault in {1..27}; do
+for fault in {1..33}; do
     is_found "$fault" || { echo "fault $fault is not found"; exit 1; }
 done
 echo "C interface: $(sed 's/^vectors: //' "$work/ran"); $headers wrong headers, $wrong wrong lines and $fault faulty libraries were found"

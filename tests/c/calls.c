@@ -1,10 +1,26 @@
 /* Calls whose lent memory lies between guards. */
 #include "calls.h"
 
-#include <stdbool.h>
-
 const char *const operation_names[OPERATIONS] = {"derive_recorded", "derive", "check", "cost"};
 size_t calls_made;
+
+#define CHECKS_OF_COST                                                                                              \
+    LYRA2_REFUSED_KEY, LYRA2_REFUSED_PASSWORD, LYRA2_REFUSED_SALT_TOO_SHORT, LYRA2_REFUSED_SALT_TOO_LONG,          \
+        LYRA2_REFUSED_TIME, LYRA2_REFUSED_ROWS, LYRA2_REFUSED_COLUMNS
+const uint32_t checks_of[OPERATIONS][MOST_CHECKS + 1] = {
+    [RECORDED] = {CHECKS_OF_COST, LYRA2_REFUSED_MATRIX, LYRA2_REFUSED_RECORD},
+    [PLAIN] = {CHECKS_OF_COST, LYRA2_REFUSED_MATRIX},
+    [CHECK] = {CHECKS_OF_COST, LYRA2_REFUSED_MATRIX},
+    [COST] = {CHECKS_OF_COST},
+};
+
+bool has_check(enum operation operation, uint32_t check)
+{
+    const uint32_t *one = checks_of[operation];
+    while (*one != LYRA2_ACCEPTED && *one != check)
+        one++;
+    return *one == check;
+}
 
 size_t used_matrix(const struct sizes *sizes)
 {

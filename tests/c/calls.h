@@ -5,6 +5,8 @@
 #include "lent.h"
 #include "lyra2.h"
 
+#include <stdbool.h>
+
 enum operation { RECORDED, PLAIN, CHECK, COST, OPERATIONS };
 
 /* The numbers of a call. Matrix and record are in words, the lengths in bytes. */
@@ -25,6 +27,11 @@ struct call {
 };
 
 extern const char *const operation_names[OPERATIONS];
+
+/* The checks of each operation in their order; LYRA2_ACCEPTED ends the list. The recorded derivation has them all. */
+enum { MOST_CHECKS = 9 };
+extern const uint32_t checks_of[OPERATIONS][MOST_CHECKS + 1];
+bool has_check(enum operation operation, uint32_t check);
 
 /* Lends what the operation takes, calls it, and requires that nothing changed but what the answer allows, and that the
  * state, the counts and `same` of a refused call are zero. */

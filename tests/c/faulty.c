@@ -39,6 +39,13 @@ static bool has(int fault, bool condition)
     return FAULT == fault && condition;
 }
 
+/* A refusal that is wrong in its number alone. */
+static uint32_t refuse(uint32_t refusal, uint64_t *counts)
+{
+    memset(counts, 0, LYRA2_COUNTS * sizeof *counts);
+    return refusal;
+}
+
 uint32_t __wrap_lyra2_derive(DERIVE_PARAMETERS, uint64_t *counts)
 {
     volatile uint8_t seen = 0;
@@ -49,17 +56,29 @@ uint32_t __wrap_lyra2_derive(DERIVE_PARAMETERS, uint64_t *counts)
     if (has(1, password_len == LYRA2_PASSWORD_MAX + 1))
         password_len--;
     if (has(2, salt_len == LYRA2_SALT_MIN))
-        return LYRA2_REFUSED_SALT;
+        return refuse(LYRA2_REFUSED_SALT_TOO_SHORT, counts);
     if (has(3, columns > LYRA2_COLUMNS_MAX && key_len > 0))
-        return LYRA2_REFUSED_COLUMNS;
+        return refuse(LYRA2_REFUSED_COLUMNS, counts);
     if (has(25, time == 0))
-        return LYRA2_REFUSED_TIME;
+        return refuse(LYRA2_REFUSED_TIME, counts);
     if (has(26, time == LYRA2_TIME_MAX + 1))
         time--;
     if (has(27, time == 0))
         time = 1;
+    if (has(28, salt_len == LYRA2_SALT_MAX))
+        return refuse(LYRA2_REFUSED_SALT_TOO_LONG, counts);
+    if (has(29, salt_len == LYRA2_SALT_MAX + 1))
+        salt_len--;
     uint32_t answer = __real_lyra2_derive(DERIVE_VALUES, counts);
     bool accepted = answer == LYRA2_ACCEPTED;
+    if (has(30, answer == LYRA2_REFUSED_SALT_TOO_LONG))
+        return LYRA2_REFUSED_SALT_TOO_SHORT;
+    if (has(31, answer == LYRA2_REFUSED_SALT_TOO_SHORT))
+        return LYRA2_REFUSED_SALT_TOO_LONG;
+    if (has(32, answer == LYRA2_REFUSED_SALT_TOO_LONG && time > LYRA2_TIME_MAX))
+        return LYRA2_REFUSED_TIME;
+    if (has(33, answer == LYRA2_REFUSED_PASSWORD && salt_len > LYRA2_SALT_MAX))
+        return LYRA2_REFUSED_SALT_TOO_LONG;
     if (has(4, accepted))
         key[key_len] = 0;
     if (has(5, accepted))

@@ -68,11 +68,13 @@ static void require_accepted(struct sizes sizes)
     end_call(&cost);
 }
 
-/* Each operation up to the last one that has the check refuses the sizes. */
-static void require_refused(struct sizes sizes, uint32_t due, enum operation last)
+/* Each operation that has the check refuses the sizes. */
+static void require_refused(struct sizes sizes, uint32_t due)
 {
-    for (enum operation operation = RECORDED; operation <= last; operation++) {
+    for (enum operation operation = RECORDED; operation < OPERATIONS; operation++) {
         struct call call;
+        if (!has_check(operation, due))
+            continue;
         make_call(&call, operation, sizes, nothing);
         if (call.answer != due)
             fail("%s: %u is due, %u was answered", operation_names[operation], due, call.answer);
@@ -83,16 +85,18 @@ static void require_refused(struct sizes sizes, uint32_t due, enum operation las
 struct limit {
     size_t place; /* of a number in struct sizes */
     size_t least, most;
-    uint32_t refusal;
+    uint32_t below, above; /* the refusals of a number beyond either end */
 };
 
 static const struct limit limits[] = {
-    {offsetof(struct sizes, key), LYRA2_KEY_MIN, LYRA2_KEY_MAX, LYRA2_REFUSED_KEY},
-    {offsetof(struct sizes, password), 0, LYRA2_PASSWORD_MAX, LYRA2_REFUSED_PASSWORD},
-    {offsetof(struct sizes, salt), LYRA2_SALT_MIN, LYRA2_SALT_MAX, LYRA2_REFUSED_SALT},
-    {offsetof(struct sizes, time), LYRA2_TIME_MIN, LYRA2_TIME_MAX, LYRA2_REFUSED_TIME},
-    {offsetof(struct sizes, rows), LYRA2_ROWS_MIN, LYRA2_ROWS_MAX, LYRA2_REFUSED_ROWS},
-    {offsetof(struct sizes, columns), LYRA2_COLUMNS_MIN, LYRA2_COLUMNS_MAX, LYRA2_REFUSED_COLUMNS},
+    {offsetof(struct sizes, key), LYRA2_KEY_MIN, LYRA2_KEY_MAX, LYRA2_REFUSED_KEY, LYRA2_REFUSED_KEY},
+    {offsetof(struct sizes, password), 0, LYRA2_PASSWORD_MAX, LYRA2_REFUSED_PASSWORD, LYRA2_REFUSED_PASSWORD},
+    {offsetof(struct sizes, salt), LYRA2_SALT_MIN, LYRA2_SALT_MAX, LYRA2_REFUSED_SALT_TOO_SHORT,
+     LYRA2_REFUSED_SALT_TOO_LONG},
+    {offsetof(struct sizes, time), LYRA2_TIME_MIN, LYRA2_TIME_MAX, LYRA2_REFUSED_TIME, LYRA2_REFUSED_TIME},
+    {offsetof(struct sizes, rows), LYRA2_ROWS_MIN, LYRA2_ROWS_MAX, LYRA2_REFUSED_ROWS, LYRA2_REFUSED_ROWS},
+    {offsetof(struct sizes, columns), LYRA2_COLUMNS_MIN, LYRA2_COLUMNS_MAX, LYRA2_REFUSED_COLUMNS,
+     LYRA2_REFUSED_COLUMNS},
 };
 
 static struct sizes with(const struct limit *limit, size_t value)
@@ -102,16 +106,13 @@ static struct sizes with(const struct limit *limit, size_t value)
     return sizes;
 }
 
-/* The refusal's sentence names both ends of its limit. */
-static void require_sentence(const struct limit *limit)
+/* A refusal's sentence names the limit that was passed. */
+static void require_sentence(uint32_t refusal, size_t limit)
 {
-    char number[32];
-    const char *sentence = lyra2_sentence(limit->refusal);
-    snprintf(number, sizeof number, " %zu", limit->most);
+    char number[32], sentence[128];
+    snprintf(sentence, sizeof sentence, "%s ", lyra2_sentence(refusal));
+    snprintf(number, sizeof number, " %zu ", limit);
     if (strstr(sentence, number) == NULL)
-        fail("'%s' does not say%s", sentence, number);
-    snprintf(number, sizeof number, " %zu ", limit->least);
-    if (limit->least > 0 && strstr(sentence, number) == NULL)
         fail("'%s' does not say%s", sentence, number);
 }
 
@@ -119,10 +120,12 @@ static void require_limit(const struct limit *limit)
 {
     require_accepted(with(limit, limit->least));
     require_accepted(with(limit, limit->most));
-    require_refused(with(limit, limit->most + 1), limit->refusal, COST);
-    if (limit->least > 0)
-        require_refused(with(limit, limit->least - 1), limit->refusal, COST);
-    require_sentence(limit);
+    require_refused(with(limit, limit->most + 1), limit->above);
+    require_sentence(limit->above, limit->most);
+    if (limit->least > 0) {
+        require_refused(with(limit, limit->least - 1), limit->below);
+        require_sentence(limit->below, limit->least);
+    }
 }
 
 /* The macros give the least words: with them a call is accepted, and refused with a word less. A record without visits
@@ -137,10 +140,10 @@ static void require_least_words(size_t time, size_t rows, size_t columns)
     sizes = fitting(sizes);
     if (time > 0) {
         sizes.record--;
-        require_refused(sizes, LYRA2_REFUSED_RECORD, RECORDED);
+        require_refused(sizes, LYRA2_REFUSED_RECORD);
     }
     sizes.matrix--;
-    require_refused(sizes, LYRA2_REFUSED_MATRIX, CHECK);
+    require_refused(sizes, LYRA2_REFUSED_MATRIX);
 }
 
 static void require_walk_limits(void)
@@ -164,7 +167,7 @@ static void require_walk_limits(void)
 /* Every answer has a sentence of its own. */
 static void require_own_sentences(void)
 {
-    for (uint32_t i = 0; i <= LYRA2_REFUSED_ROW0 + 1; i++)
+    for (uint32_t i = 0; i <= LYRA2_REFUSED_SALT_TOO_LONG + 1; i++)
         for (uint32_t j = 0; j < i; j++)
             if (strcmp(lyra2_sentence(i), lyra2_sentence(j)) == 0)
                 fail("%u and %u have the same sentence", i, j);

@@ -169,12 +169,12 @@ static void require_refused(struct sizes n, uint32_t due)
     (void)VALGRIND_MAKE_MEM_NOACCESS(m.record, 8 * n.record);
     require_answer(derive_recorded(&n, &m), due, &m);
     require_zero_field("state", m.state, 8 * LYRA2_STATE_WORDS);
-    if (due < LYRA2_REFUSED_RECORD) {
+    if (has_check(PLAIN, due)) {
         require_answer(derive(&n, &m), due, &m);
         require_answer(check(&n, &m), due, &m);
         require_zero_field("same", m.same, sizeof *m.same);
     }
-    if (due < LYRA2_REFUSED_MATRIX) {
+    if (has_check(COST, due)) {
         require_answer(lyra2_cost(n.key, n.password, n.salt, n.time, n.rows, n.columns, m.counts), due, &m);
         calls_made++;
     }
@@ -198,7 +198,7 @@ static void require_refusals(void)
     wrong[0].key = LYRA2_KEY_MAX + 1;
     require_refused(wrong[0], LYRA2_REFUSED_KEY);
     wrong[2].salt = LYRA2_SALT_MAX + 1;
-    require_refused(wrong[2], LYRA2_REFUSED_SALT);
+    require_refused(wrong[2], LYRA2_REFUSED_SALT_TOO_LONG);
     wrong[3].time = SIZE_MAX;
     require_refused(wrong[3], LYRA2_REFUSED_TIME);
     wrong[6].matrix = 0;

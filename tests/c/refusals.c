@@ -1,16 +1,13 @@
-/* The order of the checks: of every two that apply the lower number is answered, and a refused call changes nothing but
- * the fields of its answer, which become zero. */
+/* The order of the checks: of every two that apply the one that the operation tests first is answered, and a refused call
+ * changes nothing but the fields of its answer, which become zero. */
 #include "calls.h"
 
-#include <stdbool.h>
 #include <stdio.h>
 
 enum { SIDES = 3, LOW = 0, HIGH = 1, FAR = 2 };
 
 /* Every operation accepts these. */
 static const struct sizes accepted = {32, 31, 8, 1, 3, 1, 36, 12};
-static const uint32_t highest_check[OPERATIONS] = {LYRA2_REFUSED_RECORD, LYRA2_REFUSED_MATRIX, LYRA2_REFUSED_MATRIX,
-                                                   LYRA2_REFUSED_COLUMNS};
 
 static bool set(size_t *place, size_t value)
 {
@@ -40,8 +37,10 @@ static bool make_apply(struct sizes *n, uint32_t check, int side, enum operation
         return set_length(&n->key, side, LYRA2_KEY_MIN - 1, LYRA2_KEY_MAX + 1, operation);
     case LYRA2_REFUSED_PASSWORD:
         return side != LOW && set_length(&n->password, side, 0, LYRA2_PASSWORD_MAX + 1, operation);
-    case LYRA2_REFUSED_SALT:
-        return set_length(&n->salt, side, LYRA2_SALT_MIN - 1, LYRA2_SALT_MAX + 1, operation);
+    case LYRA2_REFUSED_SALT_TOO_SHORT:
+        return side == LOW && set(&n->salt, LYRA2_SALT_MIN - 1);
+    case LYRA2_REFUSED_SALT_TOO_LONG:
+        return side != LOW && set_length(&n->salt, side, 0, LYRA2_SALT_MAX + 1, operation);
     case LYRA2_REFUSED_TIME:
         return side != LOW && set_number(&n->time, side, 0, LYRA2_TIME_MAX + 1);
     case LYRA2_REFUSED_ROWS:
@@ -66,31 +65,35 @@ static void require_answer(enum operation operation, struct sizes sizes, uint32_
     end_call(&call);
 }
 
+/* Whether two checks apply at once to no call: a salt is not both too short and too long. */
+static bool exclude_each_other(uint32_t check, uint32_t later)
+{
+    return check == LYRA2_REFUSED_SALT_TOO_SHORT && later == LYRA2_REFUSED_SALT_TOO_LONG;
+}
+
 /* One check from one side, alone and with each later check of the operation from each of its sides. */
-static void pair_with_later(enum operation operation, uint32_t check, int side)
+static void pair_with_later(enum operation operation, const uint32_t *check, int side)
 {
     struct sizes one = accepted;
-    if (!make_apply(&one, check, side, operation))
+    if (!make_apply(&one, *check, side, operation))
         return;
-    require_answer(operation, one, check);
-    for (uint32_t later = check + 1; later <= highest_check[operation]; later++) {
+    require_answer(operation, one, *check);
+    for (const uint32_t *later = check + 1; *later != LYRA2_ACCEPTED; later++) {
         for (int later_side = 0; later_side < SIDES; later_side++) {
             struct sizes two = one;
-            if (make_apply(&two, later, later_side, operation))
-                require_answer(operation, two, check);
+            if (!exclude_each_other(*check, *later) && make_apply(&two, *later, later_side, operation))
+                require_answer(operation, two, *check);
         }
     }
 }
 
-/* Checks that the operation does not have change nothing. */
-static void ignore_checks_beyond(enum operation operation)
+/* A check that the operation does not have changes nothing. */
+static void ignore_check(enum operation operation, uint32_t check)
 {
-    for (uint32_t check = highest_check[operation] + 1; check <= LYRA2_REFUSED_RECORD; check++) {
-        for (int side = 0; side < SIDES; side++) {
-            struct sizes one = accepted;
-            if (make_apply(&one, check, side, operation))
-                require_answer(operation, one, LYRA2_ACCEPTED);
-        }
+    for (int side = 0; side < SIDES; side++) {
+        struct sizes one = accepted;
+        if (make_apply(&one, check, side, operation))
+            require_answer(operation, one, LYRA2_ACCEPTED);
     }
 }
 
@@ -120,10 +123,12 @@ int main(void)
 {
     for (enum operation operation = RECORDED; operation < OPERATIONS; operation++) {
         require_answer(operation, accepted, LYRA2_ACCEPTED);
-        for (uint32_t check = LYRA2_REFUSED_KEY; check <= highest_check[operation]; check++)
+        for (const uint32_t *check = checks_of[operation]; *check != LYRA2_ACCEPTED; check++)
             for (int side = 0; side < SIDES; side++)
                 pair_with_later(operation, check, side);
-        ignore_checks_beyond(operation);
+        for (const uint32_t *check = checks_of[RECORDED]; *check != LYRA2_ACCEPTED; check++)
+            if (!has_check(operation, *check))
+                ignore_check(operation, *check);
     }
     pair_walk();
     printf("refusals in pairs: %zu calls\n", calls_made);
