@@ -13,7 +13,7 @@ pub const COSTS: &str = "  --time T              the time cost, 0 to 255; with 0
 
 /// The salt.
 pub const SALT: &str = "  --salt HEX            the salt in hexadecimal, 8 to 64 bytes
-  --salt-file FILE      a file whose bytes are the salt";
+  --salt-file FILE      a file whose bytes are the salt, all of them, a last newline too";
 
 /// Where the password comes from.
 pub const PASSWORD: &str =

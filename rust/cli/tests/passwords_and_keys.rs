@@ -91,11 +91,13 @@ fn endless_input_is_refused() {
     let run = derived("--password-file /dev/zero", b"");
     assert!(run.failure().contains("refused 2"));
     let line = format!("derive {COSTS} --key-length 32 --salt-file /dev/zero");
-    assert!(lyra2(&words(&line), b"").failure().contains("refused 3"));
+    assert!(lyra2(&words(&line), b"").failure().contains("refused 10"));
 }
 
 #[test]
 fn salts() {
+    let too_short = "lyra2 derive: refused 3: the salt must be at least 8 bytes long";
+    let too_long = "lyra2 derive: refused 10: the salt must be at most 64 bytes long";
     for count in [0, 7, 8, 64, 65, 1000] {
         let salt: Vec<u8> = (0..count).map(|place| place as u8 ^ 0x9a).collect();
         let file = TemporaryFile::holding(&salt);
@@ -107,11 +109,10 @@ fn salts() {
             format!("--salt={upper}"),
         ] {
             let run = lyra2(&words(&format!("{start} {option}")), b"pass");
-            if (8..=64).contains(&count) {
-                assert_eq!(run.result(), due(b"pass", &salt, 40), "{option}");
-            } else {
-                let line = "lyra2 derive: refused 3: the salt must be 8 to 64 bytes long";
-                assert_eq!(run.failure(), line, "{option}");
+            match count {
+                0..8 => assert_eq!(run.failure(), too_short, "{option}"),
+                8..=64 => assert_eq!(run.result(), due(b"pass", &salt, 40), "{option}"),
+                _ => assert_eq!(run.failure(), too_long, "{option}"),
             }
         }
     }

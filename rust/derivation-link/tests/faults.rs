@@ -34,6 +34,10 @@ enum Fault {
     ZeroTimeRefused,
     ZeroTimeAsOne,
     Time256As255,
+    LongSaltRefusedWith3,
+    ShortSaltRefusedWith10,
+    Salt64Refused,
+    LongSaltAfterTime,
 }
 
 use Fault::*;
@@ -46,6 +50,12 @@ impl Faulty {
         match answer {
             Ok(_) if self.0 == EverythingRefused => Err(Refusal::TimeCost),
             Err(Refusal::Rows) if self.0 == RefusalNumber => Err(Refusal::Columns),
+            Err(Refusal::SaltTooLong) if self.0 == LongSaltRefusedWith3 => {
+                Err(Refusal::SaltTooShort)
+            }
+            Err(Refusal::SaltTooShort) if self.0 == ShortSaltRefusedWith10 => {
+                Err(Refusal::SaltTooLong)
+            }
             other => other,
         }
     }
@@ -94,7 +104,13 @@ impl Subject for Faulty {
             (Time256As255, 256) => 255,
             (_, t) => t,
         };
+        if self.0 == Salt64Refused && inputs.salt.len() == 64 {
+            return Err(Refusal::SaltTooLong);
+        }
         let mut answer = Proved.derive(&Inputs { t, ..*inputs }, key, matrix);
+        if self.0 == LongSaltAfterTime && answer == Err(Refusal::SaltTooLong) && t > 255 {
+            answer = Err(Refusal::TimeCost);
+        }
         match (&mut answer, self.0) {
             (Ok(_), LastKeyByte) => key[key.len() - 1] ^= 1,
             (Ok(_), LastMatrixWord) => matrix[used - 1] ^= 1,
@@ -171,6 +187,10 @@ fn every_fault_is_noticed() {
         ZeroTimeRefused,
         ZeroTimeAsOne,
         Time256As255,
+        LongSaltRefusedWith3,
+        ShortSaltRefusedWith10,
+        Salt64Refused,
+        LongSaltAfterTime,
     ] {
         let noticed = |seed: u64| compare(&Faulty(fault), seed).is_err();
         assert!((0..5000).any(noticed), "{fault:?}");

@@ -190,8 +190,11 @@ fn salt_lengths() {
     for salt in [8, 9, 63, 64] {
         assert_eq!(changed(|call| call.salt = salt), [0; 4]);
     }
-    for salt in [0, 7, 65, 1 << 8 | 8, 1 << 16 | 8] {
+    for salt in [0, 1, 6, 7] {
         assert_eq!(changed(|call| call.salt = salt), [3; 4]);
+    }
+    for salt in [65, 66, 1 << 8 | 8, 1 << 16 | 8] {
+        assert_eq!(changed(|call| call.salt = salt), [10; 4]);
     }
 }
 
@@ -260,7 +263,8 @@ fn make_hold(call: &mut Call, number: u32, high: bool) {
     match number {
         1 => call.key = pick(0, 1025) as usize,
         2 => call.password = 1025,
-        3 => call.salt = pick(7, 65) as usize,
+        3 => call.salt = pick(0, 7) as usize,
+        10 => call.salt = pick(65, 264) as usize,
         4 => call.t = pick(256, MAX),
         5 => call.r = pick(2, MAX),
         6 => call.c = pick(0, MAX),
@@ -269,18 +273,30 @@ fn make_hold(call: &mut Call, number: u32, high: bool) {
     }
 }
 
+/// The checks of the recorded derivation, in their order.
+const ORDER: [u32; 9] = [1, 2, 3, 10, 4, 5, 6, 7, 8];
+/// How many of them, from the first on, the recorded derivation, the plain one, the check and the cost question have.
+const CHECKS: [usize; 4] = [9, 8, 8, 7];
+
 #[test]
-fn of_several_refusals_the_lowest_number_is_returned() {
-    for set in 1u32..256 {
-        for high in [false, true] {
-            let held = (1..=8).filter(|number| set & (1 << (number - 1)) != 0);
-            let first = held.clone().min().expect("the set is not empty");
-            let found = changed(|call| held.clone().for_each(|n| make_hold(call, n, high)));
-            // An operation lacks the checks above its highest number.
-            let due = [8, 7, 7, 6].map(|highest| if first <= highest { first } else { 0 });
-            assert_eq!(found, due, "{set:b} {high}");
+fn of_several_refusals_the_first_in_the_order_is_returned() {
+    let mut sets = 0;
+    for set in 1u32..1 << ORDER.len() {
+        let places = (0..ORDER.len()).filter(|place| set & (1 << place) != 0);
+        let held: Vec<u32> = places.clone().map(|place| ORDER[place]).collect();
+        // No salt is both too short and too long.
+        if held.contains(&3) && held.contains(&10) {
+            continue;
         }
+        let first = places.clone().min().expect("the set is not empty");
+        let due = CHECKS.map(|count| if first < count { ORDER[first] } else { 0 });
+        for high in [false, true] {
+            let found = changed(|call| held.iter().for_each(|n| make_hold(call, *n, high)));
+            assert_eq!(found, due, "{held:?} {high}");
+        }
+        sets += 1;
     }
+    assert_eq!(sets, 3 * (1 << 7) - 1);
 }
 
 /// The cost question takes lengths that no buffer has.
@@ -295,24 +311,24 @@ fn cost_of_the_largest_numbers() {
         c: 256,
     };
     assert_eq!(cost(&accepted), 0);
-    let places: [fn(&mut Parameters) -> &mut u64; 6] = [
-        |given| &mut given.key_len,
-        |given| &mut given.password_len,
-        |given| &mut given.salt_len,
-        |given| &mut given.t,
-        |given| &mut given.r,
-        |given| &mut given.c,
+    let places: [(u32, fn(&mut Parameters) -> &mut u64); 6] = [
+        (1, |given| &mut given.key_len),
+        (2, |given| &mut given.password_len),
+        (10, |given| &mut given.salt_len),
+        (4, |given| &mut given.t),
+        (5, |given| &mut given.r),
+        (6, |given| &mut given.c),
     ];
-    for (number, place) in (1..).zip(places) {
+    for (at, (number, place)) in places.iter().enumerate() {
         for value in [MAX, MAX - 1, 1 << 63, 1 << 32 | 8] {
             let mut given = accepted;
             *place(&mut given) = value;
-            assert_eq!(cost(&given), number);
+            assert_eq!(cost(&given), *number);
             // The places after it may hold anything.
-            for later in &places[number as usize..] {
+            for (_, later) in &places[at + 1..] {
                 *later(&mut given) = MAX;
             }
-            assert_eq!(cost(&given), number);
+            assert_eq!(cost(&given), *number);
         }
     }
 }

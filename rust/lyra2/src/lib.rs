@@ -42,19 +42,19 @@
 //!
 //! # A refusal
 //!
-//! The checks run by number and the first that applies is returned. Asked before memory is set aside, [`cost`]
-//! tells whether a call with a matrix that fits will be accepted.
+//! The checks run in the order that an operation's documentation gives, and the first that applies is returned.
+//! Asked before memory is set aside, [`cost`] tells whether a call with a matrix that fits will be accepted.
 //!
 //! ```
 //! use lyra2::{cost, Lengths, Parameters, Refusal};
 //!
-//! let lengths = Lengths { key: 32, password: 8, salt: 7 };
+//! let lengths = Lengths { key: 32, password: 8, salt: 65 };
 //! let parameters = Parameters { time: 256, rows: 64, columns: 16 };
 //! let refusal = cost(lengths, parameters).unwrap_err();
 //!
-//! assert_eq!(refusal, Refusal::SaltLength);
-//! assert_eq!(refusal.number(), 3);
-//! assert_eq!(refusal.to_string(), "the salt must be 8 to 64 bytes long");
+//! assert_eq!(refusal, Refusal::SaltTooLong);
+//! assert_eq!(refusal.number(), 10);
+//! assert_eq!(refusal.to_string(), "the salt must be at most 64 bytes long");
 //! ```
 
 #![forbid(unsafe_code)]

@@ -59,7 +59,8 @@ fn input<'a>(password: &'a [u8], salt: &'a [u8], parameters: Parameters) -> lyra
 
 /// The plain derivation: fills the key, whose length is the key length, and the used matrix.
 ///
-/// Words of the matrix past the used ones keep their contents. Refusals 1 to 7.
+/// Words of the matrix past the used ones keep their contents. Refusals, in the order of the checks: 1, 2, 3, 10,
+/// 4, 5, 6, 7.
 pub fn derive(
     password: &[u8],
     salt: &[u8],
@@ -76,7 +77,8 @@ pub fn derive(
 /// The recorded derivation: as the plain one, and fills the used record with the rows and columns of each visit.
 /// With T = 0 there is no visit and no used record, so an empty one is enough.
 ///
-/// Words of the record past the used ones keep their contents. Refusals 1 to 8.
+/// Words of the record past the used ones keep their contents. Refusals, in the order of the checks: 1, 2, 3, 10,
+/// 4, 5, 6, 7, 8.
 ///
 /// ```
 /// use lyra2::{derive_recorded, Parameters};
@@ -120,7 +122,7 @@ pub fn derive_recorded(
 /// The check: derives a key as long as the stored one and tells whether they are the same.
 ///
 /// The comparison looks at every byte, wherever the keys differ. The matrix is left as [`derive()`] leaves it.
-/// Refusals 1 to 7.
+/// Refusals as of [`derive()`].
 pub fn check(
     password: &[u8],
     salt: &[u8],
@@ -143,7 +145,8 @@ pub fn check(
     })
 }
 
-/// The cost question: what a derivation or a check spends, with nothing derived. Refusals 1 to 6.
+/// The cost question: what a derivation or a check spends, with nothing derived. Refusals, in the order of the
+/// checks: 1, 2, 3, 10, 4, 5, 6.
 pub fn cost(lengths: Lengths, parameters: Parameters) -> Result<Counts, Refusal> {
     let mut counts = [0; 3];
     let sizes = lyra2_sys::Sizes {

@@ -11,8 +11,8 @@ pub enum Refusal {
     KeyLength = 1,
     /// The password is too long.
     PasswordLength = 2,
-    /// The salt length is outside its limits.
-    SaltLength = 3,
+    /// The salt is too short.
+    SaltTooShort = 3,
     /// T is above its limit.
     TimeCost = 4,
     /// R is outside its limits.
@@ -25,20 +25,23 @@ pub enum Refusal {
     RecordWords = 8,
     /// The walk question names a row that no Setup step fills.
     WalkRow = 9,
+    /// The salt is too long.
+    SaltTooLong = 10,
 }
 
 impl Refusal {
-    /// Every refusal, in the order of the checks.
-    pub const ALL: [Refusal; 9] = [
+    /// Every refusal, by number. The order of an operation's checks is another; its documentation gives it.
+    pub const ALL: [Refusal; 10] = [
         Refusal::KeyLength,
         Refusal::PasswordLength,
-        Refusal::SaltLength,
+        Refusal::SaltTooShort,
         Refusal::TimeCost,
         Refusal::Rows,
         Refusal::Columns,
         Refusal::MatrixWords,
         Refusal::RecordWords,
         Refusal::WalkRow,
+        Refusal::SaltTooLong,
     ];
 
     /// The refusal's number.
@@ -62,7 +65,10 @@ impl fmt::Display for Refusal {
         let (what, limits, unit) = match self {
             Refusal::KeyLength => ("the key must be", KEY_LENGTHS, " bytes long"),
             Refusal::PasswordLength => ("the password must be", PASSWORD_LENGTHS, " bytes long"),
-            Refusal::SaltLength => ("the salt must be", SALT_LENGTHS, " bytes long"),
+            Refusal::SaltTooShort => {
+                let least = SALT_LENGTHS.start();
+                return write!(f, "the salt must be at least {least} bytes long");
+            }
             Refusal::TimeCost => ("the time cost T must be", TIME_COSTS, ""),
             Refusal::Rows => ("the number of rows R must be", ROWS, ""),
             Refusal::Columns => ("the number of columns C must be", COLUMNS, ""),
@@ -73,6 +79,10 @@ impl fmt::Display for Refusal {
                 return f.write_str("the record must have at least R*T*(2+2*C) words");
             }
             Refusal::WalkRow => return f.write_str("row0 must be 3 to R-1"),
+            Refusal::SaltTooLong => {
+                let most = SALT_LENGTHS.end();
+                return write!(f, "the salt must be at most {most} bytes long");
+            }
         };
         write!(f, "{what} {} to {}{unit}", limits.start(), limits.end())
     }

@@ -18,20 +18,21 @@ const SMALLEST: Parameters = Parameters {
     columns: 1,
 };
 
-/// The numbers within the limits, and none beside them, must be accepted by the library.
+/// The numbers within the limits, and none beside them, must be accepted by the library. The refusals are
+/// those of a number below the limits and of one above.
 fn limits_hold(
     limits: RangeInclusive<usize>,
-    refusal: Refusal,
+    [below, above]: [Refusal; 2],
     ask: impl Fn(usize) -> Result<lyra2::Counts, Refusal>,
 ) {
     for number in [*limits.start(), *limits.end()] {
-        assert!(ask(number).is_ok(), "{refusal:?}: {number}");
+        assert!(ask(number).is_ok(), "{above:?}: {number}");
     }
     for number in [limits.end() + 1, usize::MAX] {
-        assert_eq!(ask(number), Err(refusal), "{number}");
+        assert_eq!(ask(number), Err(above), "{number}");
     }
-    if let Some(below) = limits.start().checked_sub(1) {
-        assert_eq!(ask(below), Err(refusal), "{below}");
+    if let Some(number) = limits.start().checked_sub(1) {
+        assert_eq!(ask(number), Err(below), "{number}");
     }
 }
 
@@ -47,20 +48,21 @@ fn the_named_limits_are_the_librarys() {
         rows,
         columns,
     };
-    limits_hold(KEY_LENGTHS, Refusal::KeyLength, |n| {
+    limits_hold(KEY_LENGTHS, [Refusal::KeyLength; 2], |n| {
         cost(lengths(n, 31, 8), SMALLEST)
     });
-    limits_hold(PASSWORD_LENGTHS, Refusal::PasswordLength, |n| {
+    limits_hold(PASSWORD_LENGTHS, [Refusal::PasswordLength; 2], |n| {
         cost(lengths(32, n, 8), SMALLEST)
     });
-    limits_hold(SALT_LENGTHS, Refusal::SaltLength, |n| {
-        cost(lengths(32, 31, n), SMALLEST)
-    });
-    limits_hold(TIME_COSTS, Refusal::TimeCost, |n| {
+    let salts = [Refusal::SaltTooShort, Refusal::SaltTooLong];
+    limits_hold(SALT_LENGTHS, salts, |n| cost(lengths(32, 31, n), SMALLEST));
+    limits_hold(TIME_COSTS, [Refusal::TimeCost; 2], |n| {
         cost(LENGTHS, of(n, 3, 1))
     });
-    limits_hold(ROWS, Refusal::Rows, |n| cost(LENGTHS, of(1, n, 1)));
-    limits_hold(COLUMNS, Refusal::Columns, |n| cost(LENGTHS, of(1, 3, n)));
+    limits_hold(ROWS, [Refusal::Rows; 2], |n| cost(LENGTHS, of(1, n, 1)));
+    limits_hold(COLUMNS, [Refusal::Columns; 2], |n| {
+        cost(LENGTHS, of(1, 3, n))
+    });
 }
 
 #[test]
@@ -156,25 +158,26 @@ fn walk_questions() {
 }
 
 #[test]
-fn refusals_are_numbered_from_1_to_9_and_each_has_its_sentence() {
+fn refusals_are_numbered_from_1_to_10_and_each_has_its_sentence() {
     let numbers = Refusal::ALL.map(Refusal::number);
-    assert_eq!(numbers, [1, 2, 3, 4, 5, 6, 7, 8, 9]);
+    assert_eq!(numbers, [1, 2, 3, 4, 5, 6, 7, 8, 9, 10]);
     let sentences = Refusal::ALL.map(|refusal| refusal.to_string());
     let named = [
         "1 to 1024",
         "0 to 1024",
-        "8 to 64",
+        "at least 8 bytes",
         "T must be 0 to 255",
         "R must be 3 to 16384",
         "C must be 1 to 256",
         "12*R*C words",
         "R*T*(2+2*C) words",
         "3 to R-1",
+        "at most 64 bytes",
     ];
     for (sentence, limit) in sentences.iter().zip(named) {
         assert!(sentence.contains(limit), "{sentence}");
     }
-    assert_eq!(sentences.iter().collect::<BTreeSet<_>>().len(), 9);
+    assert_eq!(sentences.iter().collect::<BTreeSet<_>>().len(), named.len());
     let error: Box<dyn std::error::Error> = Refusal::WalkRow.into();
     assert_eq!(error.to_string(), sentences[8]);
 }
