@@ -1,4 +1,4 @@
-//! The refusals: their numbers, their sentences, the limits behind them, and the order of the checks.
+//! The refusals: their numbers, their sentences, the limits behind them, and each operation's order of checks.
 
 use crate::input::Parameters;
 use std::fmt;
@@ -17,43 +17,53 @@ pub const ROWS: RangeInclusive<u64> = 3..=16_384;
 /// Values of C that are accepted.
 pub const COLUMNS: RangeInclusive<u64> = 1..=256;
 
-/// Why a call was turned down. The value of a case is its number in document 01.
-#[derive(Clone, Copy, Debug, PartialEq, Eq, PartialOrd, Ord)]
-pub enum Refusal {
+/// Makes the refusals from a list that has each of them once, in the order of the numbers: its meaning, its
+/// name, its number and its sentence.
+macro_rules! refusals {
+    ($($(#[$doc:meta])* $name:ident = $number:literal, $sentence:literal;)*) => {
+        /// Why a call was turned down. The value of a case is its number in document 01. Refusals
+        /// are not ordered, because the numbers do not tell which check comes first.
+        #[derive(Clone, Copy, Debug, PartialEq, Eq)]
+        pub enum Refusal {
+            $($(#[$doc])* $name = $number,)*
+        }
+
+        impl Refusal {
+            /// Every refusal, in the order of the numbers.
+            pub const ALL: &'static [Refusal] = &[$(Refusal::$name),*];
+
+            /// What a caller has to keep to.
+            fn sentence(self) -> &'static str {
+                match self {
+                    $(Refusal::$name => $sentence,)*
+                }
+            }
+        }
+    };
+}
+
+refusals! {
     /// The key length is outside its limits.
-    KeyLength = 1,
+    KeyLength = 1, "the key length must be 1 to 1024 bytes";
     /// The password is too long.
-    PasswordLength = 2,
+    PasswordLength = 2, "the password must be at most 1024 bytes long";
     /// The salt length is outside its limits.
-    SaltLength = 3,
+    SaltLength = 3, "the salt must be 8 to 64 bytes long";
     /// T is above its limit.
-    TimeCost = 4,
+    TimeCost = 4, "T must be at most 255";
     /// R is outside its limits.
-    Rows = 5,
+    Rows = 5, "R must be 3 to 16384";
     /// C is outside its limits.
-    Columns = 6,
+    Columns = 6, "C must be 1 to 256";
     /// The lent matrix is too short for R and C.
-    MatrixWords = 7,
+    MatrixWords = 7, "the matrix must have at least 12*R*C words";
     /// The lent record is too short for T, R and C.
-    RecordWords = 8,
+    RecordWords = 8, "the record must have at least R*T*(2+2*C) words";
     /// The walk question names a row that no Setup step fills.
-    WalkRow = 9,
+    WalkRow = 9, "row0 must be 3 to R-1";
 }
 
 impl Refusal {
-    /// Every refusal, in the order of the checks.
-    pub const ALL: [Refusal; 9] = [
-        Refusal::KeyLength,
-        Refusal::PasswordLength,
-        Refusal::SaltLength,
-        Refusal::TimeCost,
-        Refusal::Rows,
-        Refusal::Columns,
-        Refusal::MatrixWords,
-        Refusal::RecordWords,
-        Refusal::WalkRow,
-    ];
-
     /// The refusal's number in document 01.
     pub fn number(self) -> u8 {
         self as u8
@@ -61,29 +71,55 @@ impl Refusal {
 
     /// The refusal with this number, if there is one.
     pub fn from_number(number: u64) -> Option<Refusal> {
-        Refusal::ALL
-            .into_iter()
-            .find(|refusal| u64::from(refusal.number()) == number)
+        let mut all = Refusal::ALL.iter().copied();
+        all.find(|refusal| u64::from(refusal.number()) == number)
     }
 }
 
 impl fmt::Display for Refusal {
     fn fmt(&self, f: &mut fmt::Formatter<'_>) -> fmt::Result {
-        f.write_str(match self {
-            Refusal::KeyLength => "the key length must be 1 to 1024 bytes",
-            Refusal::PasswordLength => "the password must be at most 1024 bytes long",
-            Refusal::SaltLength => "the salt must be 8 to 64 bytes long",
-            Refusal::TimeCost => "T must be at most 255",
-            Refusal::Rows => "R must be 3 to 16384",
-            Refusal::Columns => "C must be 1 to 256",
-            Refusal::MatrixWords => "the matrix must have at least 12*R*C words",
-            Refusal::RecordWords => "the record must have at least R*T*(2+2*C) words",
-            Refusal::WalkRow => "row0 must be 3 to R-1",
-        })
+        f.write_str(self.sentence())
     }
 }
 
 impl std::error::Error for Refusal {}
+
+/// The checks of the recorded derivation. Here and below they stand in the order in which they are made; the
+/// first whose condition holds is the answer.
+pub const RECORDED_CHECKS: &[Refusal] = &[
+    Refusal::KeyLength,
+    Refusal::PasswordLength,
+    Refusal::SaltLength,
+    Refusal::TimeCost,
+    Refusal::Rows,
+    Refusal::Columns,
+    Refusal::MatrixWords,
+    Refusal::RecordWords,
+];
+
+/// The checks of the plain derivation and of the check.
+pub const PLAIN_CHECKS: &[Refusal] = &[
+    Refusal::KeyLength,
+    Refusal::PasswordLength,
+    Refusal::SaltLength,
+    Refusal::TimeCost,
+    Refusal::Rows,
+    Refusal::Columns,
+    Refusal::MatrixWords,
+];
+
+/// The checks of the cost question.
+pub const COST_CHECKS: &[Refusal] = &[
+    Refusal::KeyLength,
+    Refusal::PasswordLength,
+    Refusal::SaltLength,
+    Refusal::TimeCost,
+    Refusal::Rows,
+    Refusal::Columns,
+];
+
+/// The checks of the walk question.
+pub const WALK_CHECKS: &[Refusal] = &[Refusal::Rows, Refusal::WalkRow];
 
 /// Refuses unless the condition holds.
 fn demand(holds: bool, refusal: Refusal) -> Result<(), Refusal> {
@@ -94,7 +130,7 @@ fn demand(holds: bool, refusal: Refusal) -> Result<(), Refusal> {
     }
 }
 
-/// Checks 1 to 6: the six numbers of the input against their limits.
+/// The checks of the cost question: the six numbers of the input against their limits.
 pub fn check_parameters(given: &Parameters) -> Result<(), Refusal> {
     demand(KEY_LENGTHS.contains(&given.key_len), Refusal::KeyLength)?;
     let password_fits = PASSWORD_LENGTHS.contains(&given.password_len);
@@ -105,21 +141,21 @@ pub fn check_parameters(given: &Parameters) -> Result<(), Refusal> {
     demand(COLUMNS.contains(&given.c), Refusal::Columns)
 }
 
-/// Checks 1 to 7: the six numbers, then the matrix.
+/// The checks of the plain derivation and of the check: the six numbers, then the matrix.
 pub fn check_matrix(given: &Parameters, matrix: &[u64]) -> Result<(), Refusal> {
     check_parameters(given)?;
     let enough = matrix.len() as u64 >= given.matrix_words();
     demand(enough, Refusal::MatrixWords)
 }
 
-/// Checks 1 to 8: the six numbers, the matrix, then the record.
+/// The checks of the recorded derivation: the six numbers, the matrix, then the record.
 pub fn check_record(given: &Parameters, matrix: &[u64], record: &[u64]) -> Result<(), Refusal> {
     check_matrix(given, matrix)?;
     let enough = record.len() as u64 >= given.record_words();
     demand(enough, Refusal::RecordWords)
 }
 
-/// Checks 5 and 9, those of the walk question.
+/// The checks of the walk question: R, then the row asked about.
 pub fn check_walk(r: u64, row0: u64) -> Result<(), Refusal> {
     demand(ROWS.contains(&r), Refusal::Rows)?;
     demand((3..r).contains(&row0), Refusal::WalkRow)

@@ -1,7 +1,8 @@
 //! The refusals: each limit from both sides, the order of the checks, and buffers left as they were.
 
-use lyra2_reference::refusal::Refusal;
+use lyra2_reference::refusal::{Refusal, COST_CHECKS, PLAIN_CHECKS, RECORDED_CHECKS, WALK_CHECKS};
 use lyra2_reference::{check, cost, derive, derive_recorded, walk, Inputs, Parameters};
+use std::collections::BTreeSet;
 
 /// The sizes of a call; the contents of its buffers do not matter here.
 #[derive(Clone, Debug)]
@@ -65,9 +66,12 @@ fn number<T>(answer: Result<T, Refusal>) -> u8 {
     answer.err().map_or(0, Refusal::number)
 }
 
-/// What the four operations must answer if this is the first condition that holds.
-fn expected(first: u8) -> [u8; 4] {
-    [8, 7, 7, 6].map(|last_check| if first <= last_check { first } else { 0 })
+/// What the four operations must answer if the conditions of these checks hold: each the first in its order.
+fn expected(held: &[Refusal]) -> [u8; 4] {
+    [RECORDED_CHECKS, PLAIN_CHECKS, PLAIN_CHECKS, COST_CHECKS].map(|order| {
+        let first = order.iter().find(|check| held.contains(check));
+        first.map_or(0, |check| check.number())
+    })
 }
 
 /// A call that differs from the accepted one in what the change does to it.
@@ -85,16 +89,16 @@ fn the_call_that_the_others_start_from_is_accepted() {
 #[test]
 fn lengths_outside_their_limits() {
     for key_len in [0, 1025, 1026, 2048, 65_537] {
-        assert_eq!(changed(|call| call.key_len = key_len), expected(1));
+        let found = changed(|call| call.key_len = key_len);
+        assert_eq!(found, expected(&[Refusal::KeyLength]));
     }
     for password_len in [1025, 1026, 2048, 65_536, 100_000] {
-        assert_eq!(
-            changed(|call| call.password_len = password_len),
-            expected(2)
-        );
+        let found = changed(|call| call.password_len = password_len);
+        assert_eq!(found, expected(&[Refusal::PasswordLength]));
     }
     for salt_len in [0, 1, 6, 7, 65, 66, 264, 65_544] {
-        assert_eq!(changed(|call| call.salt_len = salt_len), expected(3));
+        let found = changed(|call| call.salt_len = salt_len);
+        assert_eq!(found, expected(&[Refusal::SaltLength]));
     }
 }
 
@@ -110,16 +114,16 @@ fn numbers_outside_their_limits() {
         1 << 32 | 1,
         u64::MAX,
     ] {
-        assert_eq!(changed(|call| call.t = t), expected(4));
+        assert_eq!(changed(|call| call.t = t), expected(&[Refusal::TimeCost]));
     }
     for r in [0, 1, 2, 16_385, 1 << 16 | 3, 1 << 32 | 3, u64::MAX] {
-        assert_eq!(changed(|call| call.r = r), expected(5));
+        assert_eq!(changed(|call| call.r = r), expected(&[Refusal::Rows]));
     }
     for c in [0, 257, 1 << 16 | 1, 1 << 32 | 1, u64::MAX] {
-        assert_eq!(changed(|call| call.c = c), expected(6));
+        assert_eq!(changed(|call| call.c = c), expected(&[Refusal::Columns]));
     }
     let largest = changed(|call| (call.t, call.r, call.c) = (u64::MAX, u64::MAX, u64::MAX));
-    assert_eq!(largest, expected(4));
+    assert_eq!(largest, expected(&[Refusal::TimeCost]));
 }
 
 #[test]
@@ -148,6 +152,8 @@ fn limits_themselves_are_accepted() {
 
 #[test]
 fn buffers_one_word_short() {
+    let short_matrix = expected(&[Refusal::MatrixWords]);
+    let short_record = expected(&[Refusal::RecordWords]);
     for (t, r, c) in [(1, 3, 1), (2, 3, 1), (1, 7, 4), (3, 4, 5), (1, 64, 16)] {
         let (matrix_words, record_words) = (12 * r * c, r * t * (2 + 2 * c));
         let fitting = Call {
@@ -161,44 +167,45 @@ fn buffers_one_word_short() {
         assert_eq!(answers(&fitting), [0; 4]);
         let mut short = fitting.clone();
         short.record_words -= 1;
-        assert_eq!(answers(&short), expected(8));
+        assert_eq!(answers(&short), short_record);
         short.matrix_words -= 1;
-        assert_eq!(answers(&short), expected(7));
+        assert_eq!(answers(&short), short_matrix);
         short.record_words += 1;
-        assert_eq!(answers(&short), expected(7));
+        assert_eq!(answers(&short), short_matrix);
     }
     let setup_alone = |call: &mut Call| (call.t, call.matrix_words, call.record_words) = (0, 35, 0);
-    assert_eq!(changed(setup_alone), expected(7));
-    assert_eq!(changed(|call| call.matrix_words = 0), expected(7));
-    assert_eq!(changed(|call| call.record_words = 0), expected(8));
+    assert_eq!(changed(setup_alone), short_matrix);
+    assert_eq!(changed(|call| call.matrix_words = 0), short_matrix);
+    assert_eq!(changed(|call| call.record_words = 0), short_record);
 }
 
-/// Makes the condition with this number hold, and no condition before it.
-fn make_hold(call: &mut Call, number: u8, high: bool) {
+/// Makes the condition of a check hold by one of two values, from both sides of the limits if it has two.
+fn make_hold(call: &mut Call, check: Refusal, high: bool) {
     let pick = |low: u64, above: u64| if high { above } else { low };
-    match number {
-        1 => call.key_len = pick(0, 1025) as usize,
-        2 => call.password_len = 1025,
-        3 => call.salt_len = pick(7, 65) as usize,
-        4 => call.t = pick(256, u64::MAX),
-        5 => call.r = pick(2, u64::MAX),
-        6 => call.c = pick(0, u64::MAX),
-        7 => call.matrix_words = pick(0, 35) as usize,
-        _ => call.record_words = pick(0, 11) as usize,
+    match check {
+        Refusal::KeyLength => call.key_len = pick(0, 1025) as usize,
+        Refusal::PasswordLength => call.password_len = 1025,
+        Refusal::SaltLength => call.salt_len = pick(7, 65) as usize,
+        Refusal::TimeCost => call.t = pick(256, u64::MAX),
+        Refusal::Rows => call.r = pick(2, u64::MAX),
+        Refusal::Columns => call.c = pick(0, u64::MAX),
+        Refusal::MatrixWords => call.matrix_words = pick(0, 35) as usize,
+        Refusal::RecordWords => call.record_words = pick(0, 11) as usize,
+        Refusal::WalkRow => panic!("none of the four operations has this check"),
     }
 }
 
 #[test]
 fn the_first_of_any_set_of_conditions_is_returned() {
-    for set in 1u32..256 {
+    for set in 1u32..1 << RECORDED_CHECKS.len() {
+        let in_set = |place: &usize| set >> place & 1 == 1;
+        let places = (0..RECORDED_CHECKS.len()).filter(in_set);
+        let held: Vec<_> = places.map(|place| RECORDED_CHECKS[place]).collect();
         for high in [false, true] {
-            let held = (1..=8u8).filter(|number| set & (1 << (number - 1)) != 0);
-            let call = held.clone().fold(ACCEPTED, |mut call, number| {
-                make_hold(&mut call, number, high);
-                call
-            });
-            let first = held.min().expect("the set is not empty");
-            assert_eq!(answers(&call), expected(first), "{call:?}");
+            let mut call = ACCEPTED;
+            held.iter()
+                .for_each(|check| make_hold(&mut call, *check, high));
+            assert_eq!(answers(&call), expected(&held), "{call:?}");
         }
     }
 }
@@ -250,13 +257,35 @@ fn walk_question_has_checks_5_and_9() {
     }
 }
 
+fn numbers(refusals: &[Refusal]) -> Vec<u8> {
+    refusals.iter().map(|refusal| refusal.number()).collect()
+}
+
+#[test]
+fn orders_of_the_checks() {
+    assert_eq!(numbers(RECORDED_CHECKS), [1, 2, 3, 4, 5, 6, 7, 8]);
+    assert_eq!(numbers(PLAIN_CHECKS), [1, 2, 3, 4, 5, 6, 7]);
+    assert_eq!(numbers(COST_CHECKS), [1, 2, 3, 4, 5, 6]);
+    assert_eq!(numbers(WALK_CHECKS), [5, 9]);
+}
+
+#[test]
+fn every_refusal_is_a_check_of_some_operation() {
+    let orders = [RECORDED_CHECKS, PLAIN_CHECKS, COST_CHECKS, WALK_CHECKS];
+    let made: BTreeSet<_> = numbers(&orders.concat()).into_iter().collect();
+    assert_eq!(made, numbers(Refusal::ALL).into_iter().collect());
+}
+
 #[test]
 fn numbers_and_sentences() {
-    for (place, refusal) in Refusal::ALL.into_iter().enumerate() {
-        assert_eq!(usize::from(refusal.number()), place + 1);
+    assert_eq!(numbers(Refusal::ALL), [1, 2, 3, 4, 5, 6, 7, 8, 9]);
+    let mut sentences = BTreeSet::new();
+    for refusal in Refusal::ALL {
         let number = u64::from(refusal.number());
-        assert_eq!(Refusal::from_number(number), Some(refusal));
+        assert_eq!(Refusal::from_number(number), Some(*refusal));
+        assert_eq!(Refusal::from_number(256 + number), None);
         assert!(refusal.to_string().contains("must"));
+        assert!(sentences.insert(refusal.to_string()), "{refusal}");
     }
     assert_eq!(Refusal::from_number(0), None);
     assert_eq!(Refusal::from_number(10), None);

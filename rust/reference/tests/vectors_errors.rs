@@ -1,6 +1,7 @@
 //! Bad vectors files and bad arguments: one line says what is wrong and where.
 
 use lyra2_reference::vectors::{read, Answer};
+use lyra2_reference::Refusal;
 use std::path::PathBuf;
 use std::process::{Command, Output};
 
@@ -84,8 +85,6 @@ fn bad_numbers() {
     let above = replaced(WALK, "row0=5", "row0=18446744073709551616");
     let range = "18446744073709551616 is out of range, 0 to 18446744073709551615";
     assert_eq!(above, format!("field row0: {range}"));
-    let refusal = replaced(WALK, "refusal=0", "refusal=10");
-    assert_eq!(refusal, "field refusal: 10 is out of range, 0 to 9");
     let case = replaced(WALK, "case=1", "case=0");
     assert!(case.starts_with("field case: 0 is out of range"));
     let matrix = replaced(REFUSED, "matrix_words=36", "matrix_words=67108865");
@@ -100,6 +99,26 @@ fn bad_numbers() {
     );
     let key = replaced(REFUSED, "key_len=0", "key_len=1048577");
     assert_eq!(key, "field key_len: 1048577 is out of range, 0 to 1048576");
+}
+
+#[test]
+fn refusals_have_numbers_that_exist() {
+    for number in 1..=300 {
+        let refused = format!("refusal={number}");
+        let line = WALK.replace("refusal=0 row1=3", &refused);
+        match Refusal::from_number(number) {
+            Some(refusal) => {
+                let cases = read(format!("{line}\n").as_bytes()).unwrap();
+                assert_eq!(cases[0].1.answer, Answer::Refused(refusal));
+            }
+            None => {
+                let expected = format!("field refusal: '{number}' is unknown");
+                assert_eq!(problem(&line), expected);
+            }
+        }
+    }
+    let above = replaced(WALK, "refusal=0", "refusal=18446744073709551616");
+    assert!(above.starts_with("field refusal: 18446744073709551616 is out of range"));
 }
 
 #[test]

@@ -1,7 +1,7 @@
 //! A case of the vectors file: a question put to an operation, and the answer to it.
 
 use crate::input::Parameters;
-use crate::refusal::Refusal;
+use crate::refusal::{Refusal, COST_CHECKS, PLAIN_CHECKS, RECORDED_CHECKS, WALK_CHECKS};
 use crate::sponge::{Counts, State};
 
 /// A run of bytes, given one by one or as a number of zeros.
@@ -104,6 +104,20 @@ pub enum Question {
         /// Its whole standard input.
         input: Vec<u8>,
     },
+}
+
+impl Question {
+    /// The checks of the question's operation, in their order. The walk program has none: it says by its
+    /// output that it turned an input down.
+    pub fn checks(&self) -> &'static [Refusal] {
+        match self {
+            Question::DeriveRecorded { .. } => RECORDED_CHECKS,
+            Question::Derive { .. } | Question::Check { .. } => PLAIN_CHECKS,
+            Question::Cost(_) => COST_CHECKS,
+            Question::Walk { .. } => WALK_CHECKS,
+            Question::WalkProgram { .. } => &[],
+        }
+    }
 }
 
 /// What an operation answers.

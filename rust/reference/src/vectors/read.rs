@@ -144,8 +144,7 @@ fn read_answer(fields: &mut Fields, question: &Question) -> Result<Answer, Troub
     if let Question::WalkProgram { .. } = question {
         return read_output(fields).map(Answer::Output);
     }
-    let number = fields.number("refusal", 0..=Refusal::ALL.len() as u64)?;
-    if let Some(refusal) = Refusal::from_number(number) {
+    if let Some(refusal) = read_refusal(fields)? {
         return Ok(Answer::Refused(refusal));
     }
     Ok(match question {
@@ -165,6 +164,16 @@ fn read_answer(fields: &mut Fields, question: &Question) -> Result<Answer, Troub
             row1: fields.any_number("row1")?,
         },
     })
+}
+
+/// The refusal, or None where the call is accepted.
+fn read_refusal(fields: &mut Fields) -> Result<Option<Refusal>, Trouble> {
+    let number = fields.any_number("refusal")?;
+    let refusal = Refusal::from_number(number);
+    if number != 0 && refusal.is_none() {
+        return Err(unknown_value("refusal", &number.to_string()));
+    }
+    Ok(refusal)
 }
 
 fn read_recorded(fields: &mut Fields) -> Result<Answer, Trouble> {

@@ -4,6 +4,7 @@
 
 use super::case::{Bytes, Given, Question};
 use crate::input::Parameters;
+use crate::refusal::Refusal;
 
 /// The sizes of a call.
 #[derive(Clone, Copy)]
@@ -51,29 +52,40 @@ impl Sizes {
         }
     }
 
-    /// The operations that have this check among theirs, put to these sizes.
-    fn with_check(&self, number: u8) -> Vec<Question> {
-        let mut questions = vec![self.recorded()];
-        if number <= 7 {
-            questions.push(Question::Derive {
+    fn parameters(&self) -> Parameters {
+        self.given().parameters(self.key_len)
+    }
+
+    /// The same with buffers that fit exactly.
+    fn fitting(self) -> Sizes {
+        let parameters = self.parameters();
+        Sizes {
+            matrix_words: parameters.matrix_words(),
+            record_words: parameters.record_words(),
+            ..self
+        }
+    }
+
+    /// Every operation that takes these sizes.
+    fn questions(&self) -> Vec<Question> {
+        vec![
+            self.recorded(),
+            Question::Derive {
                 given: self.given(),
                 key_len: self.key_len,
-            });
-            questions.push(Question::Check {
+            },
+            Question::Check {
                 given: self.given(),
                 stored: Bytes::Zeros(self.key_len),
-            });
-        }
-        if number <= 6 {
-            questions.push(Question::Cost(Parameters {
-                key_len: self.key_len,
-                password_len: self.password_len,
-                salt_len: self.salt_len,
-                t: self.t,
-                r: self.r,
-                c: self.c,
-            }));
-        }
+            },
+            Question::Cost(self.parameters()),
+        ]
+    }
+
+    /// The operations that have this check among theirs.
+    fn with_check(&self, check: Refusal) -> Vec<Question> {
+        let mut questions = self.questions();
+        questions.retain(|question| question.checks().contains(&check));
         questions
     }
 }
@@ -85,7 +97,7 @@ pub fn questions() -> Vec<Question> {
         short_buffers(),
         largest_buffers(),
         pairs(),
-        all_from_one_on(),
+        all_from_one_on(FITTING, &SIZES),
         cost_lengths(),
         walks(),
         walk_programs(),
@@ -96,47 +108,47 @@ pub fn questions() -> Vec<Question> {
 /// One condition at a time. Some values would pass if cut to 8, 16 or 32 bits.
 fn single() -> Vec<Question> {
     let base = FITTING;
-    let mut calls: Vec<(u8, Sizes)> = Vec::new();
+    let mut calls: Vec<(Refusal, Sizes)> = Vec::new();
     for key_len in [0, 1025, 1026, 1056, 65_537] {
-        calls.push((1, Sizes { key_len, ..base }));
+        calls.push((Refusal::KeyLength, Sizes { key_len, ..base }));
     }
     for password_len in [1025, 1026, 2048, 65_536] {
         let sizes = Sizes {
             password_len,
             ..base
         };
-        calls.push((2, sizes));
+        calls.push((Refusal::PasswordLength, sizes));
     }
     for salt_len in [0, 1, 6, 7, 65, 66, 264, 65_544] {
-        calls.push((3, Sizes { salt_len, ..base }));
+        calls.push((Refusal::SaltLength, Sizes { salt_len, ..base }));
     }
     // T = 0 was refused before request #101; its cases keep their places and are accepted.
     for t in [0, 256, 257, 1 << 16 | 1, 1 << 32 | 1, u64::MAX] {
-        calls.push((4, Sizes { t, ..base }));
+        calls.push((Refusal::TimeCost, Sizes { t, ..base }));
     }
     for r in [0, 1, 2, 16_385, 1 << 16 | 3, 1 << 32 | 3, u64::MAX] {
-        calls.push((5, Sizes { r, ..base }));
+        calls.push((Refusal::Rows, Sizes { r, ..base }));
     }
     for c in [0, 257, 1 << 16 | 1, 1 << 32 | 1, u64::MAX] {
-        calls.push((6, Sizes { c, ..base }));
+        calls.push((Refusal::Columns, Sizes { c, ..base }));
     }
     for matrix_words in [0, 1, 12, 24, 35] {
         let sizes = Sizes {
             matrix_words,
             ..base
         };
-        calls.push((7, sizes));
+        calls.push((Refusal::MatrixWords, sizes));
     }
     for record_words in [0, 1, 4, 8, 11] {
         let sizes = Sizes {
             record_words,
             ..base
         };
-        calls.push((8, sizes));
+        calls.push((Refusal::RecordWords, sizes));
     }
     calls
         .iter()
-        .flat_map(|(number, sizes)| sizes.with_check(*number))
+        .flat_map(|(check, sizes)| sizes.with_check(*check))
         .collect()
 }
 
@@ -153,19 +165,12 @@ fn short_buffers() -> Vec<Question> {
         (1, 3, 256),
         (1, 16_384, 1),
     ] {
-        let fitting = Sizes {
-            t,
-            r,
-            c,
-            matrix_words: 12 * r * c,
-            record_words: r * t * (2 + 2 * c),
-            ..FITTING
-        };
-        let mut sizes = fitting;
+        let shape = Sizes { t, r, c, ..FITTING };
+        let mut sizes = shape.fitting();
         sizes.record_words -= 1;
-        questions.extend(sizes.with_check(8));
+        questions.extend(sizes.with_check(Refusal::RecordWords));
         sizes.matrix_words -= 1;
-        questions.extend(sizes.with_check(7));
+        questions.extend(sizes.with_check(Refusal::MatrixWords));
         sizes.record_words += 1;
         questions.push(sizes.recorded());
     }
@@ -194,44 +199,93 @@ fn largest_buffers() -> Vec<Question> {
     vec![one_short.recorded(), sizes.recorded(), longest.recorded()]
 }
 
-/// Makes a condition hold, from below or from above its limits. T = 0 makes 4 hold no longer; the cases
-/// with it keep their places, and the next condition is the first that holds.
-fn make_hold(sizes: &mut Sizes, number: u8, from_above: bool) {
+/// The size that a check is about.
+#[derive(Clone, Copy, PartialEq, Eq)]
+enum Size {
+    Key,
+    Password,
+    Salt,
+    TimeCost,
+    Rows,
+    Columns,
+    Matrix,
+    Record,
+}
+
+/// The sizes in the order of their checks. The groups go by these and not by the numbers of the checks, so
+/// that a number that comes later changes none of their questions.
+const SIZES: [Size; 8] = [
+    Size::Key,
+    Size::Password,
+    Size::Salt,
+    Size::TimeCost,
+    Size::Rows,
+    Size::Columns,
+    Size::Matrix,
+    Size::Record,
+];
+
+fn all_but(left_out: &[Size]) -> Vec<Size> {
+    let kept = |size: &Size| !left_out.contains(size);
+    SIZES.into_iter().filter(kept).collect()
+}
+
+/// Takes a size out of its limits, from below or from above, and returns the check that turns it down. Only
+/// T = 0 is not turned down, and the next condition is then the first that holds.
+fn make_hold(sizes: &mut Sizes, size: Size, from_above: bool) -> Refusal {
     let pick = |below, above| if from_above { above } else { below };
-    match number {
-        1 => sizes.key_len = pick(0, 1025),
-        2 => sizes.password_len = 1025,
-        3 => sizes.salt_len = pick(7, 65),
-        4 => sizes.t = pick(0, u64::MAX),
-        5 => sizes.r = pick(2, u64::MAX),
-        6 => sizes.c = pick(0, u64::MAX),
-        7 => sizes.matrix_words = pick(0, 35),
-        _ => sizes.record_words = pick(0, 11),
-    }
+    let (place, value, check) = match (size, from_above) {
+        (Size::Key, _) => (&mut sizes.key_len, pick(0, 1025), Refusal::KeyLength),
+        (Size::Password, _) => (&mut sizes.password_len, 1025, Refusal::PasswordLength),
+        (Size::Salt, _) => (&mut sizes.salt_len, pick(7, 65), Refusal::SaltLength),
+        (Size::TimeCost, _) => (&mut sizes.t, pick(0, u64::MAX), Refusal::TimeCost),
+        (Size::Rows, _) => (&mut sizes.r, pick(2, u64::MAX), Refusal::Rows),
+        (Size::Columns, _) => (&mut sizes.c, pick(0, u64::MAX), Refusal::Columns),
+        (Size::Matrix, _) => (&mut sizes.matrix_words, pick(0, 35), Refusal::MatrixWords),
+        (Size::Record, _) => (&mut sizes.record_words, pick(0, 11), Refusal::RecordWords),
+    };
+    *place = value;
+    check
 }
 
 /// Every two conditions at once.
 fn pairs() -> Vec<Question> {
     let mut questions = Vec::new();
-    for first in 1..=8 {
-        for second in first + 1..=8 {
+    for (place, first) in SIZES.iter().enumerate() {
+        for (later_place, second) in SIZES.iter().enumerate().skip(place + 1) {
             let mut sizes = FITTING;
-            make_hold(&mut sizes, first, second % 2 == 0);
-            make_hold(&mut sizes, second, first % 2 == 0);
-            questions.extend(sizes.with_check(second));
+            make_hold(&mut sizes, *first, later_place % 2 == 1);
+            let check = make_hold(&mut sizes, *second, place % 2 == 1);
+            questions.extend(sizes.with_check(check));
         }
     }
     questions
 }
 
-/// A condition and every one after it.
-fn all_from_one_on() -> Vec<Question> {
+/// Each of some conditions and every one after it, added to what holds already.
+fn all_from_one_on(base: Sizes, among: &[Size]) -> Vec<Question> {
     let mut questions = Vec::new();
-    for first in 1..=8 {
+    for (place, first) in among.iter().enumerate() {
         for from_above in [false, true] {
-            let mut sizes = FITTING;
-            (first..=8).for_each(|number| make_hold(&mut sizes, number, from_above));
-            questions.extend(sizes.with_check(first));
+            let mut sizes = base;
+            let check = make_hold(&mut sizes, *first, from_above);
+            for later in &among[place + 1..] {
+                make_hold(&mut sizes, *later, from_above);
+            }
+            questions.extend(sizes.with_check(check));
+        }
+    }
+    questions
+}
+
+/// Each of some conditions, added to what holds already.
+fn with_each(base: Sizes, among: &[Size], sides: &[bool]) -> Vec<Question> {
+    let mut questions = Vec::new();
+    for size in among {
+        for from_above in sides {
+            let mut sizes = base;
+            let check = make_hold(&mut sizes, *size, *from_above);
+            questions.extend(sizes.with_check(check));
         }
     }
     questions
@@ -239,14 +293,7 @@ fn all_from_one_on() -> Vec<Question> {
 
 /// Lengths that no buffer has, which the cost question can still be asked about.
 fn cost_lengths() -> Vec<Question> {
-    let base = Parameters {
-        key_len: 32,
-        password_len: 31,
-        salt_len: 8,
-        t: 1,
-        r: 3,
-        c: 1,
-    };
+    let base = FITTING.parameters();
     let mut questions = Vec::new();
     for key_len in [1 << 32 | 32, u64::MAX] {
         questions.push(Parameters { key_len, ..base });
@@ -328,23 +375,15 @@ pub fn of_time_costs() -> Vec<Question> {
         record_words: 0,
         ..FITTING
     };
-    let mut questions = Vec::new();
-    for (number, from_above) in (1..=7).flat_map(|number| [(number, false), (number, true)]) {
-        if number != 4 {
-            let mut sizes = setup_alone;
-            make_hold(&mut sizes, number, from_above);
-            questions.extend(sizes.with_check(number));
-        }
-    }
+    // With T = 0 no record is too short.
+    let others = all_but(&[Size::TimeCost, Size::Record]);
+    let mut questions = with_each(setup_alone, &others, &[false, true]);
     // Those after 256 would pass if cut to 16 or 32 bits.
     for t in [256, 1 << 16, 1 << 32] {
         let above = Sizes { t, ..FITTING };
-        questions.extend(above.with_check(4));
-        for other in (1..=8).filter(|other| *other != 4) {
-            let mut sizes = above;
-            make_hold(&mut sizes, other, t == 256);
-            questions.extend(sizes.with_check(other.max(4)));
-        }
+        questions.extend(above.with_check(Refusal::TimeCost));
+        let others = all_but(&[Size::TimeCost]);
+        questions.extend(with_each(above, &others, &[t == 256]));
     }
     questions
 }

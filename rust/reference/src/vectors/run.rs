@@ -195,13 +195,10 @@ pub fn agree(subject: &impl Subject, question: &Question, answer: &Answer) -> Re
             counts,
             matrix_sum,
             ..
-        } => agree_on_key(subject, given, key, *counts, *matrix_sum)?,
-        // The other operations lend no record, so they have no such refusal.
-        Answer::Refused(Refusal::RecordWords) => return Ok(false),
-        Answer::Refused(refusal) => agree_on_refusal(subject, given, *key_len, *refusal)?,
-        _ => return Err("a recorded derivation gave another operation's answer".to_string()),
+        } => agree_on_key(subject, given, key, *counts, *matrix_sum).map(|()| true),
+        Answer::Refused(refusal) => agree_on_refusal(subject, given, *key_len, *refusal),
+        _ => Err("a recorded derivation gave another operation's answer".to_string()),
     }
-    Ok(true)
 }
 
 fn agree_on_key(
@@ -238,21 +235,23 @@ fn agree_on_key(
     Ok(())
 }
 
+/// Asks the operations that have the check, and says whether there are any; a short record has none.
 fn agree_on_refusal(
     subject: &impl Subject,
     given: &Given,
     key_len: u64,
     refusal: Refusal,
-) -> Result<(), String> {
-    let answer = Answer::Refused(refusal);
-    expect(subject, &derive_question(given, key_len), &answer)?;
-    let check = check_question(given, Bytes::Zeros(key_len));
-    expect(subject, &check, &answer)?;
-    if refusal < Refusal::MatrixWords {
-        let cost = Question::Cost(given.parameters(key_len));
-        expect(subject, &cost, &answer)?;
+) -> Result<bool, String> {
+    let mut others = vec![
+        derive_question(given, key_len),
+        check_question(given, Bytes::Zeros(key_len)),
+        Question::Cost(given.parameters(key_len)),
+    ];
+    others.retain(|question| question.checks().contains(&refusal));
+    for question in &others {
+        expect(subject, question, &Answer::Refused(refusal))?;
     }
-    Ok(())
+    Ok(!others.is_empty())
 }
 
 fn derive_question(given: &Given, key_len: u64) -> Question {
