@@ -1,4 +1,4 @@
-//! A second Lyra2, made from Algorithm 2 of the reference guide and from document 01 alone.
+//! A second Lyra2, made from Algorithm 2 of the reference guide and from documents 01 and 02 alone.
 //!
 //! It shares no code with the product, so that where the two agree, a slip common to both is unlikely.
 //! Clarity comes before speed: each phase of the algorithm has a file of its own, in the order of the

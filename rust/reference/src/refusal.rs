@@ -21,7 +21,7 @@ pub const COLUMNS: RangeInclusive<u64> = 1..=256;
 /// name, its number and its sentence.
 macro_rules! refusals {
     ($($(#[$doc:meta])* $name:ident = $number:literal, $sentence:literal;)*) => {
-        /// Why a call was turned down. The value of a case is its number in document 01. Refusals
+        /// Why a call was turned down. The value of a case is its number in documents 01 and 02. Refusals
         /// are not ordered, because the numbers do not tell which check comes first.
         #[derive(Clone, Copy, Debug, PartialEq, Eq)]
         pub enum Refusal {
@@ -47,8 +47,8 @@ refusals! {
     KeyLength = 1, "the key length must be 1 to 1024 bytes";
     /// The password is too long.
     PasswordLength = 2, "the password must be at most 1024 bytes long";
-    /// The salt length is outside its limits.
-    SaltLength = 3, "the salt must be 8 to 64 bytes long";
+    /// The salt is too short.
+    SaltTooShort = 3, "the salt must be at least 8 bytes long";
     /// T is above its limit.
     TimeCost = 4, "T must be at most 255";
     /// R is outside its limits.
@@ -61,10 +61,12 @@ refusals! {
     RecordWords = 8, "the record must have at least R*T*(2+2*C) words";
     /// The walk question names a row that no Setup step fills.
     WalkRow = 9, "row0 must be 3 to R-1";
+    /// The salt is too long.
+    SaltTooLong = 10, "the salt must be at most 64 bytes long";
 }
 
 impl Refusal {
-    /// The refusal's number in document 01.
+    /// The refusal's number in documents 01 and 02.
     pub fn number(self) -> u8 {
         self as u8
     }
@@ -89,7 +91,8 @@ impl std::error::Error for Refusal {}
 pub const RECORDED_CHECKS: &[Refusal] = &[
     Refusal::KeyLength,
     Refusal::PasswordLength,
-    Refusal::SaltLength,
+    Refusal::SaltTooShort,
+    Refusal::SaltTooLong,
     Refusal::TimeCost,
     Refusal::Rows,
     Refusal::Columns,
@@ -101,7 +104,8 @@ pub const RECORDED_CHECKS: &[Refusal] = &[
 pub const PLAIN_CHECKS: &[Refusal] = &[
     Refusal::KeyLength,
     Refusal::PasswordLength,
-    Refusal::SaltLength,
+    Refusal::SaltTooShort,
+    Refusal::SaltTooLong,
     Refusal::TimeCost,
     Refusal::Rows,
     Refusal::Columns,
@@ -112,7 +116,8 @@ pub const PLAIN_CHECKS: &[Refusal] = &[
 pub const COST_CHECKS: &[Refusal] = &[
     Refusal::KeyLength,
     Refusal::PasswordLength,
-    Refusal::SaltLength,
+    Refusal::SaltTooShort,
+    Refusal::SaltTooLong,
     Refusal::TimeCost,
     Refusal::Rows,
     Refusal::Columns,
@@ -135,7 +140,9 @@ pub fn check_parameters(given: &Parameters) -> Result<(), Refusal> {
     demand(KEY_LENGTHS.contains(&given.key_len), Refusal::KeyLength)?;
     let password_fits = PASSWORD_LENGTHS.contains(&given.password_len);
     demand(password_fits, Refusal::PasswordLength)?;
-    demand(SALT_LENGTHS.contains(&given.salt_len), Refusal::SaltLength)?;
+    let (shortest, longest) = (*SALT_LENGTHS.start(), *SALT_LENGTHS.end());
+    demand(given.salt_len >= shortest, Refusal::SaltTooShort)?;
+    demand(given.salt_len <= longest, Refusal::SaltTooLong)?;
     demand(TIME_COSTS.contains(&given.t), Refusal::TimeCost)?;
     demand(ROWS.contains(&given.r), Refusal::Rows)?;
     demand(COLUMNS.contains(&given.c), Refusal::Columns)

@@ -40,7 +40,7 @@ struct Faulty(Fault);
 impl Faulty {
     fn spoil_refusal<A>(&self, answer: Result<A, Refusal>) -> Result<A, Refusal> {
         match answer {
-            Err(Refusal::SaltLength) if self.0 == RefusalsSwapped => Err(Refusal::TimeCost),
+            Err(Refusal::SaltTooShort) if self.0 == RefusalsSwapped => Err(Refusal::TimeCost),
             Ok(_) if self.0 == EverythingRefused => Err(Refusal::Rows),
             other => other,
         }

@@ -96,9 +96,13 @@ fn lengths_outside_their_limits() {
         let found = changed(|call| call.password_len = password_len);
         assert_eq!(found, expected(&[Refusal::PasswordLength]));
     }
-    for salt_len in [0, 1, 6, 7, 65, 66, 264, 65_544] {
+    for salt_len in 0..=7 {
         let found = changed(|call| call.salt_len = salt_len);
-        assert_eq!(found, expected(&[Refusal::SaltLength]));
+        assert_eq!(found, expected(&[Refusal::SaltTooShort]));
+    }
+    for salt_len in [65, 66, 128, 255, 256, 264, 65_535, 65_544] {
+        let found = changed(|call| call.salt_len = salt_len);
+        assert_eq!(found, expected(&[Refusal::SaltTooLong]));
     }
 }
 
@@ -185,7 +189,8 @@ fn make_hold(call: &mut Call, check: Refusal, high: bool) {
     match check {
         Refusal::KeyLength => call.key_len = pick(0, 1025) as usize,
         Refusal::PasswordLength => call.password_len = 1025,
-        Refusal::SaltLength => call.salt_len = pick(7, 65) as usize,
+        Refusal::SaltTooShort => call.salt_len = pick(0, 7) as usize,
+        Refusal::SaltTooLong => call.salt_len = pick(65, 1025) as usize,
         Refusal::TimeCost => call.t = pick(256, u64::MAX),
         Refusal::Rows => call.r = pick(2, u64::MAX),
         Refusal::Columns => call.c = pick(0, u64::MAX),
@@ -201,6 +206,10 @@ fn the_first_of_any_set_of_conditions_is_returned() {
         let in_set = |place: &usize| set >> place & 1 == 1;
         let places = (0..RECORDED_CHECKS.len()).filter(in_set);
         let held: Vec<_> = places.map(|place| RECORDED_CHECKS[place]).collect();
+        // No salt is too short and too long.
+        if held.contains(&Refusal::SaltTooShort) && held.contains(&Refusal::SaltTooLong) {
+            continue;
+        }
         for high in [false, true] {
             let mut call = ACCEPTED;
             held.iter()
@@ -235,7 +244,11 @@ fn cost_of_lengths_that_no_buffer_has() {
         password_len: 0,
         ..password
     };
-    assert_eq!(number(cost(&salt)), 3);
+    assert_eq!(number(cost(&salt)), 10);
+    // Cut to 32 bits, these salts would be too short or would pass.
+    for salt_len in [1 << 32, 1 << 32 | 8, 1 << 32 | 64, 1 << 32 | 65] {
+        assert_eq!(number(cost(&Parameters { salt_len, ..salt })), 10);
+    }
     assert_eq!(largest.matrix_words(), u64::MAX);
     assert_eq!(largest.record_words(), u64::MAX);
 }
@@ -263,9 +276,9 @@ fn numbers(refusals: &[Refusal]) -> Vec<u8> {
 
 #[test]
 fn orders_of_the_checks() {
-    assert_eq!(numbers(RECORDED_CHECKS), [1, 2, 3, 4, 5, 6, 7, 8]);
-    assert_eq!(numbers(PLAIN_CHECKS), [1, 2, 3, 4, 5, 6, 7]);
-    assert_eq!(numbers(COST_CHECKS), [1, 2, 3, 4, 5, 6]);
+    assert_eq!(numbers(RECORDED_CHECKS), [1, 2, 3, 10, 4, 5, 6, 7, 8]);
+    assert_eq!(numbers(PLAIN_CHECKS), [1, 2, 3, 10, 4, 5, 6, 7]);
+    assert_eq!(numbers(COST_CHECKS), [1, 2, 3, 10, 4, 5, 6]);
     assert_eq!(numbers(WALK_CHECKS), [5, 9]);
 }
 
@@ -278,7 +291,7 @@ fn every_refusal_is_a_check_of_some_operation() {
 
 #[test]
 fn numbers_and_sentences() {
-    assert_eq!(numbers(Refusal::ALL), [1, 2, 3, 4, 5, 6, 7, 8, 9]);
+    assert_eq!(numbers(Refusal::ALL), [1, 2, 3, 4, 5, 6, 7, 8, 9, 10]);
     let mut sentences = BTreeSet::new();
     for refusal in Refusal::ALL {
         let number = u64::from(refusal.number());
@@ -288,5 +301,5 @@ fn numbers_and_sentences() {
         assert!(sentences.insert(refusal.to_string()), "{refusal}");
     }
     assert_eq!(Refusal::from_number(0), None);
-    assert_eq!(Refusal::from_number(10), None);
+    assert_eq!(Refusal::from_number(11), None);
 }

@@ -141,10 +141,10 @@ fn every_operation_has_each_of_its_refusals() {
         }
     }
     let expected: [(&str, BTreeSet<u8>); 5] = [
-        ("derive_recorded", (1..=8).collect()),
-        ("derive", (1..=7).collect()),
-        ("check", (1..=7).collect()),
-        ("cost", (1..=6).collect()),
+        ("derive_recorded", [1, 2, 3, 4, 5, 6, 7, 8, 10].into()),
+        ("derive", [1, 2, 3, 4, 5, 6, 7, 10].into()),
+        ("check", [1, 2, 3, 4, 5, 6, 7, 10].into()),
+        ("cost", [1, 2, 3, 4, 5, 6, 10].into()),
         ("walk", [5, 9].into()),
     ];
     assert_eq!(found, expected.into());

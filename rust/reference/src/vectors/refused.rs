@@ -119,8 +119,11 @@ fn single() -> Vec<Question> {
         };
         calls.push((Refusal::PasswordLength, sizes));
     }
-    for salt_len in [0, 1, 6, 7, 65, 66, 264, 65_544] {
-        calls.push((Refusal::SaltLength, Sizes { salt_len, ..base }));
+    for salt_len in [0, 1, 6, 7] {
+        calls.push((Refusal::SaltTooShort, Sizes { salt_len, ..base }));
+    }
+    for salt_len in [65, 66, 264, 65_544] {
+        calls.push((Refusal::SaltTooLong, Sizes { salt_len, ..base }));
     }
     // T = 0 was refused before request #101; its cases keep their places and are accepted.
     for t in [0, 256, 257, 1 << 16 | 1, 1 << 32 | 1, u64::MAX] {
@@ -237,7 +240,8 @@ fn make_hold(sizes: &mut Sizes, size: Size, from_above: bool) -> Refusal {
     let (place, value, check) = match (size, from_above) {
         (Size::Key, _) => (&mut sizes.key_len, pick(0, 1025), Refusal::KeyLength),
         (Size::Password, _) => (&mut sizes.password_len, 1025, Refusal::PasswordLength),
-        (Size::Salt, _) => (&mut sizes.salt_len, pick(7, 65), Refusal::SaltLength),
+        (Size::Salt, false) => (&mut sizes.salt_len, 7, Refusal::SaltTooShort),
+        (Size::Salt, true) => (&mut sizes.salt_len, 65, Refusal::SaltTooLong),
         (Size::TimeCost, _) => (&mut sizes.t, pick(0, u64::MAX), Refusal::TimeCost),
         (Size::Rows, _) => (&mut sizes.r, pick(2, u64::MAX), Refusal::Rows),
         (Size::Columns, _) => (&mut sizes.c, pick(0, u64::MAX), Refusal::Columns),
