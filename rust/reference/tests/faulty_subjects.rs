@@ -2,7 +2,8 @@
 
 mod common;
 
-use lyra2_reference::vectors::{run, Answer, Case, Coverage, Question, Reference, Subject};
+use lyra2_reference::refusal::{check_matrix, check_parameters, check_record};
+use lyra2_reference::vectors::{run, write, Answer, Case, Coverage, Question, Reference, Subject};
 use lyra2_reference::{Checked, Counts, Inputs, Parameters, Recorded, Refusal};
 
 #[derive(Clone, Copy, Debug, PartialEq, Eq)]
@@ -261,5 +262,147 @@ fn a_partial_program_is_held_against_what_it_has() {
         };
         let found = run::check_case(&Partial(Faulty(Fault::Nothing)), &case);
         assert_eq!(found, Ok(expected));
+    }
+}
+
+/// A wrong rule of refusal: to some calls it gives another answer than the one that is due.
+#[derive(Clone, Copy)]
+struct WrongRule {
+    name: &'static str,
+    due: Result<(), Refusal>,
+    calls: fn(&Parameters) -> bool,
+    answer: Refusal,
+}
+
+const WRONG_RULES: [WrongRule; 7] = [
+    WrongRule {
+        name: "a long salt is answered as a short one",
+        due: Err(Refusal::SaltTooLong),
+        calls: |_| true,
+        answer: Refusal::SaltTooShort,
+    },
+    WrongRule {
+        name: "a short salt is answered as a long one",
+        due: Err(Refusal::SaltTooShort),
+        calls: |_| true,
+        answer: Refusal::SaltTooLong,
+    },
+    WrongRule {
+        name: "the longest salt is refused",
+        due: Ok(()),
+        calls: |given| given.salt_len == 64,
+        answer: Refusal::SaltTooLong,
+    },
+    WrongRule {
+        name: "the shortest salt is refused",
+        due: Ok(()),
+        calls: |given| given.salt_len == 8,
+        answer: Refusal::SaltTooShort,
+    },
+    WrongRule {
+        name: "a long salt comes after T",
+        due: Err(Refusal::SaltTooLong),
+        calls: |given| given.t > 255,
+        answer: Refusal::TimeCost,
+    },
+    WrongRule {
+        name: "a long salt comes before the password",
+        due: Err(Refusal::PasswordLength),
+        calls: |given| given.salt_len > 64,
+        answer: Refusal::SaltTooLong,
+    },
+    WrongRule {
+        name: "the length of the salt is cut to 8 bits",
+        due: Err(Refusal::SaltTooLong),
+        calls: |given| given.salt_len % 256 < 8,
+        answer: Refusal::SaltTooShort,
+    },
+];
+
+/// The reference program with a wrong rule of refusal in one of its operations.
+struct WrongRefusals {
+    rule: WrongRule,
+    op: &'static str,
+}
+
+impl WrongRefusals {
+    /// Comes before any buffer is touched, so that only the number of the refusal can tell.
+    fn refuse(
+        &self,
+        op: &str,
+        given: &Parameters,
+        due: Result<(), Refusal>,
+    ) -> Result<(), Refusal> {
+        if op == self.op && due == self.rule.due && (self.rule.calls)(given) {
+            return Err(self.rule.answer);
+        }
+        due
+    }
+}
+
+impl Subject for WrongRefusals {
+    fn derive_recorded(
+        &self,
+        inputs: &Inputs,
+        key: &mut [u8],
+        matrix: &mut [u64],
+        record: &mut [u64],
+    ) -> Option<Result<Recorded, Refusal>> {
+        let given = inputs.parameters(key.len());
+        let due = check_record(&given, matrix, record);
+        match self.refuse("derive_recorded", &given, due) {
+            Ok(()) => Reference.derive_recorded(inputs, key, matrix, record),
+            Err(refusal) => Some(Err(refusal)),
+        }
+    }
+
+    fn derive(
+        &self,
+        inputs: &Inputs,
+        key: &mut [u8],
+        matrix: &mut [u64],
+    ) -> Result<Counts, Refusal> {
+        let given = inputs.parameters(key.len());
+        self.refuse("derive", &given, check_matrix(&given, matrix))?;
+        Reference.derive(inputs, key, matrix)
+    }
+
+    fn check(
+        &self,
+        inputs: &Inputs,
+        stored: &[u8],
+        matrix: &mut [u64],
+    ) -> Result<Checked, Refusal> {
+        let given = inputs.parameters(stored.len());
+        self.refuse("check", &given, check_matrix(&given, matrix))?;
+        Reference.check(inputs, stored, matrix)
+    }
+
+    fn cost(&self, given: &Parameters) -> Result<Counts, Refusal> {
+        self.refuse("cost", given, check_parameters(given))?;
+        Reference.cost(given)
+    }
+
+    fn walk(&self, r: u64, row0: u64) -> Result<u64, Refusal> {
+        Reference.walk(r, row0)
+    }
+}
+
+/// By the operation's own cases, and by those of the recorded derivation, which ask the other operations too.
+#[test]
+fn wrong_rules_of_refusal_are_noticed_in_every_operation() {
+    let cases = small_cases();
+    for rule in WRONG_RULES {
+        for op in ["derive_recorded", "derive", "check", "cost"] {
+            for asked in [op, "derive_recorded"] {
+                let noticed = |case: &Case| {
+                    write::op(&case.question) == asked
+                        && run::check_case(&WrongRefusals { rule, op }, case).is_err()
+                };
+                // From the end, where the cases of the salts stand; they are found sooner.
+                let found = cases.iter().rev().any(noticed);
+                assert!(found, "{}: {op}, {asked}", rule.name);
+            }
+        }
     }
 }

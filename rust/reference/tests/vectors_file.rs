@@ -2,7 +2,10 @@
 
 mod common;
 
-use lyra2_reference::vectors::{chosen_text, run, write, Answer, Coverage, Question, Reference};
+use lyra2_reference::vectors::{
+    chosen_text, run, write, Answer, Case, Coverage, Question, Reference,
+};
+use lyra2_reference::{Parameters, Refusal};
 use std::collections::{BTreeMap, BTreeSet};
 
 #[test]
@@ -148,4 +151,95 @@ fn every_operation_has_each_of_its_refusals() {
         ("walk", [5, 9].into()),
     ];
     assert_eq!(found, expected.into());
+}
+
+/// The numbers of a question and the words it lends as matrix and record, the most where it lends none. The
+/// walk has other numbers.
+fn numbers_and_words(question: &Question) -> Option<(Parameters, u64, u64)> {
+    Some(match question {
+        Question::DeriveRecorded {
+            given,
+            key_len,
+            record_words,
+            ..
+        } => (
+            given.parameters(*key_len),
+            given.matrix_words,
+            *record_words,
+        ),
+        Question::Derive { given, key_len } => {
+            (given.parameters(*key_len), given.matrix_words, u64::MAX)
+        }
+        Question::Check { given, stored } => {
+            let key_len = stored.count();
+            (given.parameters(key_len), given.matrix_words, u64::MAX)
+        }
+        Question::Cost(given) => (*given, u64::MAX, u64::MAX),
+        Question::Walk { .. } | Question::WalkProgram { .. } => return None,
+    })
+}
+
+/// Whether the condition of a check holds for a question, also where another check comes first.
+fn holds(check: Refusal, question: &Question) -> bool {
+    let Some((given, matrix_words, record_words)) = numbers_and_words(question) else {
+        return false;
+    };
+    match check {
+        Refusal::KeyLength => given.key_len == 0 || given.key_len > 1024,
+        Refusal::PasswordLength => given.password_len > 1024,
+        Refusal::SaltTooShort => given.salt_len < 8,
+        Refusal::SaltTooLong => given.salt_len > 64,
+        Refusal::TimeCost => given.t > 255,
+        Refusal::Rows => given.r < 3 || given.r > 16_384,
+        Refusal::Columns => given.c == 0 || given.c > 256,
+        Refusal::MatrixWords => matrix_words < given.matrix_words(),
+        Refusal::RecordWords => record_words < given.record_words(),
+        Refusal::WalkRow => false,
+    }
+}
+
+/// The cases of the operations other than the walk, by operation.
+fn cases_by_operation() -> BTreeMap<&'static str, Vec<Case>> {
+    let mut cases_of: BTreeMap<_, Vec<Case>> = BTreeMap::new();
+    for (_, case) in common::cases() {
+        if numbers_and_words(&case.question).is_some() {
+            let own = cases_of.entry(write::op(&case.question)).or_default();
+            own.push(case);
+        }
+    }
+    assert_eq!(cases_of.len(), 4);
+    cases_of
+}
+
+#[test]
+fn refusals_follow_the_order_of_the_checks() {
+    for case in cases_by_operation().into_values().flatten() {
+        let mut order = case.question.checks().iter();
+        let due = order.find(|check| holds(**check, &case.question));
+        let found = match &case.answer {
+            Answer::Refused(refusal) => Some(refusal),
+            _ => None,
+        };
+        assert_eq!(found, due, "case {}", case.number);
+    }
+}
+
+/// Such a case shows a program that makes the later check first.
+#[test]
+fn every_check_is_answered_where_a_later_one_holds_too() {
+    for (op, cases) in cases_by_operation() {
+        let order = cases[0].question.checks();
+        for (place, first) in order.iter().enumerate() {
+            for later in &order[place + 1..] {
+                // No salt is too short and too long.
+                if (*first, *later) == (Refusal::SaltTooShort, Refusal::SaltTooLong) {
+                    continue;
+                }
+                let shows = |case: &Case| {
+                    case.answer == Answer::Refused(*first) && holds(*later, &case.question)
+                };
+                assert!(cases.iter().any(shows), "{op}: {first:?}, {later:?}");
+            }
+        }
+    }
 }

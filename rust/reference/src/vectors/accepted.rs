@@ -500,3 +500,24 @@ fn costs_without_visits() -> Vec<Question> {
     }
     given.into_iter().map(Question::Cost).collect()
 }
+
+/// The shortest and the longest salt in every operation, with visits and without.
+pub fn with_limit_salts() -> Vec<Question> {
+    let mut random = Random::new(20);
+    // A key length that no other group has with these salts, so that no question is asked again.
+    let shapes = [(8, 0), (8, 1), (64, 0), (64, 1)].map(|(salt_len, t)| Shape {
+        salt_len,
+        t,
+        key_len: 24,
+        ..BASE
+    });
+    [
+        shapes.map(|shape| shape.recorded(&mut random)).to_vec(),
+        plain_derivations(21, &shapes),
+        checks(22, &shapes),
+        shapes
+            .map(|shape| Question::Cost(shape.parameters()))
+            .to_vec(),
+    ]
+    .concat()
+}

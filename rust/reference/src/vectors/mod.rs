@@ -29,6 +29,8 @@ pub fn chosen_questions() -> Vec<Question> {
         refused::questions(),
         accepted::without_visits(),
         refused::of_time_costs(),
+        accepted::with_limit_salts(),
+        refused::of_salts(),
     ]
     .concat()
 }

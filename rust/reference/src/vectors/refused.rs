@@ -3,6 +3,7 @@
 //! The contents of passwords, salts and stored keys do not matter here, so that all are zeros.
 
 use super::case::{Bytes, Given, Question};
+use super::random::Random;
 use crate::input::Parameters;
 use crate::refusal::Refusal;
 
@@ -390,4 +391,69 @@ pub fn of_time_costs() -> Vec<Question> {
         questions.extend(with_each(above, &others, &[t == 256]));
     }
     questions
+}
+
+/// Salts outside their limits: alone, with every other condition, and with all from one on; then random salts.
+pub fn of_salts() -> Vec<Question> {
+    // A key and a password that no other group has, so that no question is asked again.
+    let base = Sizes {
+        key_len: 24,
+        password_len: 16,
+        ..FITTING
+    };
+    let mut questions = Vec::new();
+    // Some would pass or be too short if cut to 8, 16 or 32 bits.
+    for salt_len in (0..8).chain([65, 66, 72, 128, 255, 256, 264, 320, 1000, 65_544]) {
+        questions.extend(Sizes { salt_len, ..base }.questions());
+    }
+    for salt_len in [1 << 32 | 8, 1 << 32 | 64, 1 << 32 | 65, u64::MAX] {
+        questions.push(Question::Cost(Sizes { salt_len, ..base }.parameters()));
+    }
+    let others = all_but(&[Size::Salt]);
+    // Not 7 and 65, with which the sets of all conditions stand in an earlier group.
+    for salt_len in [6, 66] {
+        let salted = Sizes { salt_len, ..base };
+        questions.extend(with_each(salted, &others, &[false, true]));
+        questions.extend(all_from_one_on(salted, &others));
+    }
+    questions.extend(random_salts());
+    without_repeats(questions)
+}
+
+/// Salts of up to 200 bytes, and every fourth below 16; of the other sizes, one in ten is outside its limits.
+fn random_salts() -> Vec<Question> {
+    let mut random = Random::new(27);
+    let mut questions = Vec::new();
+    for number in 0..28 {
+        let longest = if number % 4 == 0 { 15 } else { 200 };
+        let drawn = Sizes {
+            key_len: random.between(1, 200),
+            password_len: random.between(0, 200),
+            salt_len: random.between(0, longest),
+            t: random.between(0, 3),
+            r: random.between(3, 12),
+            c: random.between(1, 4),
+            ..FITTING
+        };
+        let mut sizes = drawn.fitting();
+        for other in all_but(&[Size::Salt]) {
+            if random.once_in(10) {
+                make_hold(&mut sizes, other, random.once_in(2));
+            }
+        }
+        questions.extend(sizes.questions());
+    }
+    questions
+}
+
+/// The questions without those that stand earlier: a long password has no other side, and two sets of
+/// conditions may come to the same.
+fn without_repeats(questions: Vec<Question>) -> Vec<Question> {
+    let mut once = Vec::new();
+    for question in questions {
+        if !once.contains(&question) {
+            once.push(question);
+        }
+    }
+    once
 }
