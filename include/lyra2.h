@@ -64,7 +64,7 @@ extern "C" {
 #define LYRA2_RECORD_WORDS(time, rows, columns) (UINT64_C(1) * (rows) * (time) * (UINT64_C(2) * (columns) + 2))
 
 /*
- * The refusals. A call tests them in this order, which is not that of the numbers everywhere:
+ * The refusals. A call tests its own in this order, which is not the order of the numbers:
  *     lyra2_derive_recorded        1, 2, 3, 10, 4, 5, 6, 7, 8
  *     lyra2_derive, lyra2_check    1, 2, 3, 10, 4, 5, 6, 7
  *     lyra2_cost                   1, 2, 3, 10, 4, 5, 6
