@@ -9,7 +9,7 @@ use lib.Dec.{ltb}
 use borrow.Author.Tests.{ltb-false}
 use Rattle.settings.specs.declared.Parameters.{Parameters}
 use Rattle.settings.specs.declared.Lengths.{Lengths}
-use Rattle.refusals.specs.Checks.{Bound, _≤?_, Check, atLeast, broken, refuses, first, Kept, Accepted, costChecks, plainChecks, recordedChecks}
+use Rattle.refusals.specs.Checks.{Bound, _≤?_, Check, broken, refuses, first, Kept, Accepted, costChecks, plainChecks, recordedChecks}
 
 -- numbers above 0
 abbrev pub Numbered : List Check → Type 0
@@ -59,11 +59,6 @@ pub first-of-is : (c : Check) (cs : List Check) {refused : Bool} {later r : ℕ}
     → r ≡ first (c ∷ cs)
 unfolding first
 first-of-is c cs e f g = f ∙ (λ i. cond (e i) (c .number) (g i))
-
--- the same of a check with one bound, which the code tests in place
-pub first-below-is : (number least value : ℕ) (cs : List Check) {later r : ℕ} → r ≡ cond (ltb value least) number later → later ≡ first cs
-    → r ≡ first (atLeast number least value ∷ cs)
-first-below-is number least value cs f g = first-of-is (atLeast number least value) cs (alone (ltb value least)) f g
 
 -- the lists of the derivations
 module _ (l : Lengths) (p : Parameters) (m : ℕ) where

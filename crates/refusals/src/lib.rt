@@ -4,7 +4,7 @@ use settings::Parameters;
 ghost use mathlib.Core.Path.{_≡_};
 ghost use mathlib.Core.Bool.{cond};
 ghost use mathlib.Core.List.{[], _∷_};
-ghost use Rattle.refusals.specs.Checks.{first, broken, between, costChecks, walkChecks, rowsCheck};
+ghost use Rattle.refusals.specs.Checks.{_≤?_, first, broken, between, costChecks, walkChecks, rowsCheck};
 
 pub const KEY_LENGTH: u32 = 1;
 
@@ -48,6 +48,12 @@ pub fn outside(least: usize, most: usize, x: usize) -> bool
     x < least || most < x
 }
 
+pub fn below(bound: usize, x: usize) -> bool
+    ensures { λ r. ⌜ r ≡ broken (bound ≤? x ∷ []) ⌝ }
+{
+    x < bound
+}
+
 // A check's number where it refuses, else what the later checks say.
 pub fn first_of(refuses: bool, number: u32, later: u32) -> u32
     ensures { λ r. ⌜ r ≡ cond refuses number later ⌝ }
@@ -63,7 +69,7 @@ pub fn cost_refusal(l: Lengths, p: Parameters) -> u32
     let later = first_of(outside(MIN_ROWS, MAX_ROWS, p.rows), ROW_COUNT, later);
     let later = first_of(outside(0, MAX_TIME, p.time), TIME_COST, later);
     let later = first_of(outside(0, MAX_SALT, l.salt), SALT_TOO_LONG, later);
-    let later = first_of(l.salt < MIN_SALT, SALT_TOO_SHORT, later);
+    let later = first_of(below(MIN_SALT, l.salt), SALT_TOO_SHORT, later);
     let later = first_of(outside(0, MAX_PASSWORD, l.password), PASSWORD_LENGTH, later);
     first_of(outside(1, MAX_KEY, l.key), KEY_LENGTH, later)
 }

@@ -2,6 +2,7 @@
 use profile::Profile;
 use refusals::MATRIX_LENGTH;
 use refusals::RECORD_LENGTH;
+use refusals::below;
 use refusals::cost_refusal;
 use refusals::first_of;
 use settings::Lengths;
@@ -27,7 +28,11 @@ pub fn plain_refusal(l: Lengths, p: Parameters, matrix: usize) -> u32
     if number != 0 {
         return number;
     }
-    first_of(matrix < matrix_words(p.rows * p.columns), MATRIX_LENGTH, 0)
+    first_of(
+        below(matrix_words(p.rows * p.columns), matrix),
+        MATRIX_LENGTH,
+        0,
+    )
 }
 
 // The words that the record of n visits takes.
@@ -48,7 +53,7 @@ pub fn recorded_refusal(l: Lengths, p: Parameters, matrix: usize, record: usize)
         return number;
     }
     first_of(
-        record < record_words(p.rows * p.time, p.columns),
+        below(record_words(p.rows * p.time, p.columns), record),
         RECORD_LENGTH,
         0,
     )

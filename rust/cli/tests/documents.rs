@@ -3,7 +3,9 @@
 mod common;
 
 use common::{hex, lyra2, words, TemporaryFile};
-use lyra2_reference::{derive, Inputs};
+use lyra2_reference::refusal::{COST_CHECKS, PLAIN_CHECKS, RECORDED_CHECKS, WALK_CHECKS};
+use lyra2_reference::{derive, Inputs, Refusal};
+use std::collections::BTreeMap;
 
 fn document(name: &str) -> String {
     let path = format!("{}/../../{name}", env!("CARGO_MANIFEST_DIR"));
@@ -25,6 +27,58 @@ fn the_first_key_is_the_second_programs() {
     derive(&inputs, &mut key, &mut matrix).expect("no check refuses");
     let readme = document("README.md");
     assert!(readme.lines().any(|line| line.trim() == hex(&key)));
+}
+
+/// The numbers of some checks, as the documents write them.
+fn listed(checks: &[Refusal]) -> String {
+    let numbers: Vec<_> = checks
+        .iter()
+        .map(|check| check.number().to_string())
+        .collect();
+    numbers.join(", ")
+}
+
+/// The order of the checks that a document gives for each operation, in lines made of this start, the operations'
+/// names, this between, and the numbers.
+fn orders(document: &str, start: &str, between: &str) -> BTreeMap<String, String> {
+    let mut found = BTreeMap::new();
+    for line in document.lines().filter_map(|line| line.strip_prefix(start)) {
+        let Some((names, numbers)) = line.split_once(between) else {
+            continue;
+        };
+        let numbers = numbers.trim_matches([' ', '|']);
+        if numbers.starts_with(|digit: char| digit.is_ascii_digit()) {
+            for name in names.split(", ") {
+                let name = name.trim_matches('`').trim_start_matches("lyra2_");
+                found.insert(name.to_string(), numbers.to_string());
+            }
+        }
+    }
+    found
+}
+
+#[test]
+fn the_orders_of_the_checks_are_the_second_programs() {
+    let due: BTreeMap<_, _> = [
+        ("derive_recorded", RECORDED_CHECKS),
+        ("derive", PLAIN_CHECKS),
+        ("check", PLAIN_CHECKS),
+        ("cost", COST_CHECKS),
+        ("walk", WALK_CHECKS),
+    ]
+    .map(|(name, checks)| (name.to_string(), listed(checks)))
+    .into();
+    let header = document("include/lyra2.h");
+    assert_eq!(orders(&header, " *     ", "  "), due);
+    let page = document("vectors/README.md");
+    assert_eq!(orders(&page, "| `", " | "), due);
+    let code = document("rust/lyra2/src/operations.rs");
+    let lines = code.lines().filter_map(|line| line.strip_prefix("/// "));
+    let words = lines.collect::<Vec<_>>().join(" ");
+    for checks in [RECORDED_CHECKS, PLAIN_CHECKS, COST_CHECKS] {
+        let sentence = format!("in the order of the checks: {}.", listed(checks));
+        assert!(words.contains(&sentence), "{sentence}");
+    }
 }
 
 /// The lines of a document that show bytes: an offset, a colon, and up to sixteen bytes.

@@ -3,8 +3,9 @@
 use crate::parameters::{COLUMNS, KEY_LENGTHS, PASSWORD_LENGTHS, ROWS, SALT_LENGTHS, TIME_COSTS};
 use std::fmt;
 
-/// Why a call was turned down. The value of a case is its number.
-#[derive(Clone, Copy, Debug, PartialEq, Eq, PartialOrd, Ord, Hash)]
+/// Why a call was turned down. The value of a case is its number. Refusals are not ordered: the numbers do not
+/// tell which check comes first.
+#[derive(Clone, Copy, Debug, PartialEq, Eq, Hash)]
 #[non_exhaustive]
 pub enum Refusal {
     /// The key length is outside its limits.

@@ -1,14 +1,12 @@
 -- `plain_refusal` meets its contract: the checks of the cost question, then that of the matrix. Assumes nothing.
 use mathlib.Core.Path.{_≡_, sym, ap, _∙_}
-use mathlib.Core.Bool.{cond}
 use mathlib.Core.List.{[], _∷_}
 use Prim.Native.Nat.{ℕ, _*_, _≤_}
-use lib.Dec.{ltb}
 use native.Mathlib.Omega.{arith}
 use Rattle.settings.specs.declared.Parameters.{Parameters}
 use Rattle.settings.specs.declared.Lengths.{Lengths}
-use Rattle.refusals.specs.Checks.{matrixCheck, first, costChecks, plainChecks}
-use Rattle.refusals.proofs.Accepted.{accepted, first-none, first-below-is, more-refuse, more-pass, cells-most}
+use Rattle.refusals.specs.Checks.{_≤?_, broken, matrixCheck, first, costChecks, plainChecks}
+use Rattle.refusals.proofs.Accepted.{accepted, first-none, first-of-is, more-refuse, more-pass, cells-most}
 use Rattle.room_refusals.proofs.plain_refusal.Statement.{statement}
 use Rattle.room_refusals.proofs.plain_refusal.Tie as tie
 
@@ -28,10 +26,10 @@ returns c =
 returns-2 : tie.Need-returns-2
 unfolding plainChecks costChecks
 returns-2 c =
-    let a = c .before .before .before .before .before .args in
-    more-pass (costChecks (a .l) (a .p)) (matrixCheck (a .p) (a .matrix) ∷ []) (c .before .before .before .before .cost-refusal .ensures)
-    (omega arith) (c .before .before .before .if1 .left)
-    (first-below-is _ _ _ _ (c .first-of .ensures ∙ ap (λ (n : ℕ). cond (ltb (a .matrix) n) 7 0) (c .before .matrix-words .ensures)) first-none)
+    let a = c .before .before .before .before .before .before .args in
+    let short = c .before .below .ensures ∙ ap (λ (n : ℕ). broken (n ≤? a .matrix ∷ [])) (c .before .before .matrix-words .ensures) in
+    more-pass (costChecks (a .l) (a .p)) (matrixCheck (a .p) (a .matrix) ∷ []) (c .before .before .before .before .before .cost-refusal .ensures)
+    (omega arith) (c .before .before .before .before .if1 .left) (first-of-is _ _ short (c .first-of .ensures) first-none)
 
 pub plain-refusal-spec : {M : Type 1} → statement M
 plain-refusal-spec =
@@ -39,4 +37,4 @@ plain-refusal-spec =
     (tie.spec (omega arith) returns
     (λ c. omega (arith, cells _ _ (sym (c .before .before .cost-refusal .ensures) ∙ c .before .if1 .left)))
     (λ c κs. omega (arith, cells _ _ (sym (c .before .before .cost-refusal .ensures) ∙ c .before .if1 .left)))
-    (omega arith) returns-2)
+    (omega arith) (omega arith) returns-2)

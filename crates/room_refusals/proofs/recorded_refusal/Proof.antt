@@ -1,14 +1,12 @@
 -- `recorded_refusal` meets its contract: the checks of the plain derivation, then that of the record. Assumes nothing.
 use mathlib.Core.Path.{_≡_, sym, ap, _∙_}
-use mathlib.Core.Bool.{cond}
 use mathlib.Core.List.{[], _∷_}
 use Prim.Native.Nat.{ℕ, _+_, _*_, _≤_}
-use lib.Dec.{ltb}
 use native.Mathlib.Omega.{arith}
 use Rattle.settings.specs.declared.Parameters.{Parameters}
 use Rattle.settings.specs.declared.Lengths.{Lengths}
-use Rattle.refusals.specs.Checks.{recordCheck, first, costChecks, plainChecks, recordedChecks}
-use Rattle.refusals.proofs.Accepted.{accepted, first-none, first-below-is, more-refuse, more-pass, record-most, visits-most}
+use Rattle.refusals.specs.Checks.{_≤?_, broken, recordCheck, first, costChecks, plainChecks, recordedChecks}
+use Rattle.refusals.proofs.Accepted.{accepted, first-none, first-of-is, more-refuse, more-pass, record-most, visits-most}
 use Rattle.room_refusals.proofs.recorded_refusal.Statement.{statement}
 use Rattle.room_refusals.proofs.recorded_refusal.Tie as tie
 
@@ -29,10 +27,10 @@ returns c =
 returns-2 : tie.Need-returns-2
 unfolding recordedChecks plainChecks costChecks
 returns-2 c =
-    let a = c .before .before .before .before .before .args in
-    more-pass (plainChecks (a .l) (a .p) (a .matrix)) (recordCheck (a .p) (a .«record») ∷ []) (c .before .before .before .before .plain-refusal .ensures)
-    (omega arith) (c .before .before .before .if1 .left)
-    (first-below-is _ _ _ _ (c .first-of .ensures ∙ ap (λ (n : ℕ). cond (ltb (a .«record») n) 8 0) (c .before .record-words .ensures)) first-none)
+    let a = c .before .before .before .before .before .before .args in
+    let short = c .before .below .ensures ∙ ap (λ (n : ℕ). broken (n ≤? a .«record» ∷ [])) (c .before .before .record-words .ensures) in
+    more-pass (plainChecks (a .l) (a .p) (a .matrix)) (recordCheck (a .p) (a .«record») ∷ []) (c .before .before .before .before .before .plain-refusal .ensures)
+    (omega arith) (c .before .before .before .before .if1 .left) (first-of-is _ _ short (c .first-of .ensures) first-none)
 
 pub recorded-refusal-spec : {M : Type 1} → statement M
 recorded-refusal-spec =
@@ -42,4 +40,4 @@ recorded-refusal-spec =
     (λ c κs.
     let v = visited _ _ _ (sym (c .before .before .plain-refusal .ensures) ∙ c .before .if1 .left) in
     (v .0, omega (arith, v .2)))
-    (omega arith) returns-2)
+    (omega arith) (omega arith) returns-2)
