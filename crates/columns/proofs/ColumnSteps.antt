@@ -24,11 +24,13 @@ use Rattle.sponge.specs.Sponge.{rand, cellSum}
 use Rattle.sponge.proofs.Absorbing.{absorb-state, absorb-inj}
 use Rattle.sponge.proofs.Output.{length-rand, rand-words}
 use Rattle.settings.specs.Settings.{Settings}
+use Rattle.places.specs.Places.{rowStart, firstWord, cellStart}
+use Rattle.places.specs.declared.RowStart.{RowStart}
+use Rattle.places.proofs.PlaceLaws.{start-place}
 use Rattle.matrix.specs.Cells.{rotated}
 use Rattle.matrix.proofs.CellLaws.{length-cell, length-rotated, rotated-words}
 use Rattle.matrix.proofs.Apart.{cell, cell-changed, cell-kept, cell-put, row-before}
-use Rattle.columns.specs.Bounds.{Filling}
-use Rattle.columns.specs.Columns.{Work, work, duplexed, fillColumn, copyColumn, setupCells, setupWritten, setupColumn, picks, visitCells, visitWritten, visitColumn}
+use Rattle.columns.specs.Columns.{Work, work, mirrored, duplexed, fillColumn, copyColumn, setupCells, setupWritten, setupColumn, picks, visitCells, visitWritten, visitColumn}
 use Rattle.columns.specs.declared.Rows.{Rows}
 use Rattle.columns.specs.declared.Picks.{Picks}
 use Rattle.columns.proofs.View.{Cells, Below, Same, Sound, Keeps, keeps-then}
@@ -175,6 +177,12 @@ module _ (n : ℕ) {P : Cells} where
 
 -- ---- the columns
 
+-- the rows that a Setup step reads are before the one that it fills
+pub record RowsBefore (r : Rows) : Type 0 where
+  pub row1 : r .row1 .0 < r .row0 .0
+  pub prev0 : r .prev0 .0 < r .row0 .0
+  pub prev1 : r .prev1 .0 < r .row0 .0
+
 -- the rows before a row, and of that row the last cells, as many as columns were filled
 abbrev pub Filled : ℕ → ℕ → ℕ → Cells
 Filled C row col x = (x < row * C + C) × (row * C ≤ x → row * C + (C - col) ≤ x)
@@ -217,16 +225,18 @@ module _ (S : Settings) (u : Undoes (S .addition)) (n : ℕ) where
   copy-column-keeps prev0 row0 col is inside lt =
       keeps-then (keeps-duplex n S u (made-before row0 col inside lt prev0 is)) (keeps-fill-xored row0 col inside lt prev0 is)
 
-  pub setup-column-keeps : (r : Rows) (col : ℕ) → Filling C r (12 * n) → col < C
+  pub setup-column-keeps : (r : Rows) (col : ℕ) → RowsBefore r → r .row0 .0 * C + C ≤ n → col < C
       → Keeps n (Filled C (r .row0 .0) col) (Filled C (r .row0 .0) (suc col)) (setupColumn S r col)
   unfolding setupColumn setupCells setupWritten
-  setup-column-keeps r col is lt =
-      let inside : r .row0 .0 * C + C ≤ n = omega (arith, is .row0) in
+  setup-column-keeps r col is inside lt =
+      let before : (row : ℕ) → row < r .row0 .0 → row * C + C ≤ r .row0 .0 * C = λ row h. row-before row (r .row0 .0) C h in
       let of = made-before (r .row0 .0) col inside lt in
       keeps-then
       (keeps-duplex n S u
-      (made-sum (made-sum (of (r .row1 .0) (is .row1)) (of (r .prev0 .0) (is .prev0))) (of (r .prev1 .0) (is .prev1))))
-      (keeps-then (keeps-fill-xored (r .row0 .0) col inside lt (r .prev0 .0) (is .prev0))
+      (made-sum
+      (made-sum (of (r .row1 .0) (before _ (is .row1))) (of (r .prev0 .0) (before _ (is .prev0))))
+      (of (r .prev1 .0) (before _ (is .prev1)))))
+      (keeps-then (keeps-fill-xored (r .row0 .0) col inside lt (r .prev0 .0) (before _ (is .prev0)))
       (keeps-xor-rotated n (r .row1 .0 * C + col) (S .rotation)))
 
 -- ---- a visit
@@ -266,3 +276,9 @@ pub visit-column-done : (S : Settings) (r : Rows) (col : ℕ) (p : Picks) (s m s
     → m′ ≡ visitWritten S r col s′ m → work s′ m′ ≡ visitColumn S r col p (work s m)
 unfolding visitColumn
 visit-column-done S r col p s m s′ m′ es em = cc
+
+-- row 0 by its start
+pub fill-column-done : (S : Settings) (col mirror : ℕ) (a : RowStart) (s m s′ m′ : List ℕ) → firstWord a ≡ rowStart (S .columns) 0 → mirror ≡ mirrored S col
+    → s′ ≡ rounds (S .addition .sum) (S .rounds) s → m′ ≡ zipAt (λ x y. y) (cellStart a mirror) m (rand s) → work s′ m′ ≡ fillColumn S col (work s m)
+unfolding fillColumn
+fill-column-done S col mirror a s m s′ m′ ea e es em = cc (start-place (S .columns) 0 a ea mirror)

@@ -1,26 +1,39 @@
--- Where the rows and columns of a step lie, in a form that is linear in row · C.
+-- What the code of a column asks of the rows that it works on, by their starts.
 use mathlib.Core.Path.{_≡_}
-use Prim.Native.Nat.{ℕ, _+_, _*_, _≤_, _<_}
+use Prim.Native.Nat.{ℕ, _≤_, _<_, _^_}
 use mathlib.Core.List.{List}
-use Rattle.profile.specs.Profile.{cellWords}
 use Rattle.settings.specs.Settings.{Settings}
+use Rattle.places.specs.Places.{rowStart, firstWord, startAt, cellStart}
+use Rattle.places.specs.declared.Row.{Row}
+use Rattle.places.specs.declared.RowStart.{RowStart}
 use Rattle.columns.specs.Columns.{picks}
 use Rattle.columns.specs.declared.Rows.{Rows}
+use Rattle.columns.specs.declared.Starts.{Starts}
 use Rattle.columns.specs.declared.Picks.{Picks}
 
--- the row that Setup fills is within a matrix of n words, and the rows that it reads are before it
-pub record Filling (C : ℕ) (r : Rows) (n : ℕ) : Type 0 where
-  pub row0 : cellWords * (r .row0 .0 * C + C) ≤ n
-  pub row1 : r .row1 .0 * C + C ≤ r .row0 .0 * C
-  pub prev0 : r .prev0 .0 * C + C ≤ r .row0 .0 * C
-  pub prev1 : r .prev1 .0 * C + C ≤ r .row0 .0 * C
+-- the starts of the rows of a step
+abbrev pub startsOf : ℕ → Rows → Starts
+startsOf C r =
+    let at : Row → RowStart = λ row. startAt (rowStart C (row .0)) in
+    record { row0 = at (r .row0); row1 = at (r .row1); prev0 = at (r .prev0); prev1 = at (r .prev1) }
 
--- all four rows of a visit are within a matrix of n words
-pub record Within (C : ℕ) (r : Rows) (n : ℕ) : Type 0 where
-  pub row0 : cellWords * (r .row0 .0 * C + C) ≤ n
-  pub row1 : cellWords * (r .row1 .0 * C + C) ≤ n
-  pub prev0 : cellWords * (r .prev0 .0 * C + C) ≤ n
-  pub prev1 : cellWords * (r .prev1 .0 * C + C) ≤ n
+-- what holds of the rows that start there, said without their numbers
+abbrev pub AtRows : ℕ → Starts → (Rows → Type 0) → Type 0
+AtRows C a P = (r : Rows) → a ≡ startsOf C r → P r
+
+-- all four rows end within n words
+pub record Within (C : ℕ) (a : Starts) (n : ℕ) : Type 0 where
+  pub row0 : cellStart (a .row0) C ≤ n
+  pub row1 : cellStart (a .row1) C ≤ n
+  pub prev0 : cellStart (a .prev0) C ≤ n
+  pub prev1 : cellStart (a .prev1) C ≤ n
+
+-- the same of the rows of a Setup step; prev0, which is read while row0 is written, ends before it
+pub record Filling (C : ℕ) (a : Starts) (n : ℕ) : Type 0 where
+  pub row0 : cellStart (a .row0) C ≤ n
+  pub row1 : cellStart (a .row1) C ≤ n
+  pub prev0 : cellStart (a .prev0) C ≤ firstWord (a .row0)
+  pub prev1 : cellStart (a .prev1) C ≤ n
 
 -- what the output of a state picks, which is two columns
 pub record Picked (S : Settings) (s : List ℕ) (p : Picks) : Type 0 where

@@ -1,27 +1,31 @@
-// A column of Setup's first three rows.
-use matrix::Column;
-use matrix::Row;
+// A column of Setup's first three rows. The row that is filled is written from its last column down, in the column `mirror`.
 use matrix::cell;
-use matrix::cell_start;
 use matrix::put_cell;
 use matrix::put_xored;
+use places::Column;
+use places::RowStart;
 use settings::Parameters;
 use sponge::duplex::duplex;
 use sponge::duplex::output;
 use sponge::duplex::reduced_call;
 ghost use mathlib.Core.Path.{_≡_};
-ghost use Prim.Native.Nat.{_+_, _*_, _≤_, _<_};
+ghost use Prim.Native.Nat.{_+_, _≤_, _<_};
 ghost use lib.ListN.{length};
-ghost use Rattle.profile.specs.Profile.{cellWords};
+ghost use Rattle.lists.specs.Zip.{zipAt};
+ghost use Rattle.mixer.specs.Word.{plainSum};
+ghost use Rattle.permutation.specs.Round.{rounds};
+ghost use Rattle.profile.specs.Profile.{reducedRounds, cellWords};
+ghost use Rattle.sponge.specs.Sponge.{rand};
 ghost use Rattle.settings.specs.Settings.{settings};
-ghost use Rattle.columns.specs.Columns.{work, fillColumn, copyColumn};
+ghost use Rattle.places.specs.Places.{firstWord, cellStart, AtRow};
+ghost use Rattle.columns.specs.Columns.{work, mirrored, copyColumn};
 
 // A column of row 0.
-pub fn fill_column(s: &mut [u64; 16], m: &mut [u64], col: usize, p: Parameters)
-    requires { ⌜ (col < p .columns) × (cellWords * p .columns ≤ length (now m)) ⌝ }
-    ensures { λ _. ⌜ work (now (s .exit)) (now (m .exit)) ≡ fillColumn (settings p) col (work (now (s .entry)) (now (m .entry))) ⌝ }
+pub fn fill_column(s: &mut [u64; 16], m: &mut [u64], row0: RowStart, mirror: Column)
+    requires { ⌜ cellStart row0 (mirror .0) + cellWords ≤ length (now m) ⌝ }
+    ensures { λ _. ⌜ (now (s .exit) ≡ rounds plainSum reducedRounds (now (s .entry))) × (now (m .exit) ≡ zipAt (λ x y. y) (cellStart row0 (mirror .0)) (now (m .entry)) (rand (now (s .entry)))) ⌝ }
 {
-    let a = cell_start(Row(0), Column(p.columns - 1 - col), p.columns);
+    let a = row0.cell_start(mirror);
     let rand = output(s);
     put_cell(m, a, &rand);
     reduced_call(s);
@@ -31,17 +35,18 @@ pub fn fill_column(s: &mut [u64; 16], m: &mut [u64], col: usize, p: Parameters)
 pub fn copy_column(
     s: &mut [u64; 16],
     m: &mut [u64],
-    prev0: Row,
-    row0: Row,
-    col: usize,
+    prev0: RowStart,
+    row0: RowStart,
+    col: Column,
+    mirror: Column,
     p: Parameters,
 )
-    requires { ⌜ (col < p .columns) × (prev0 .0 * p .columns + p .columns ≤ row0 .0 * p .columns) × (cellWords * (row0 .0 * p .columns + p .columns) ≤ length (now m)) ⌝ }
-    ensures { λ _. ⌜ work (now (s .exit)) (now (m .exit)) ≡ copyColumn (settings p) (prev0 .0) (row0 .0) col (work (now (s .entry)) (now (m .entry))) ⌝ }
+    requires { ⌜ (col .0 < p .columns) × (mirror .0 ≡ mirrored (settings p) (col .0)) × (cellStart prev0 (p .columns) ≤ firstWord row0) × (cellStart row0 (p .columns) ≤ length (now m)) ⌝ }
+    ensures { λ _. ⌜ AtRow (p .columns) prev0 (λ q. AtRow (p .columns) row0 (λ r. work (now (s .exit)) (now (m .exit)) ≡ copyColumn (settings p) q r (col .0) (work (now (s .entry)) (now (m .entry))))) ⌝ }
 {
-    duplex(s, cell(m, prev0, Column(col), p.columns));
-    let a = cell_start(prev0, Column(col), p.columns);
-    let b = cell_start(row0, Column(p.columns - 1 - col), p.columns);
+    duplex(s, cell(m, prev0, col));
+    let a = prev0.cell_start(col);
+    let b = row0.cell_start(mirror);
     let rand = output(s);
     put_xored(m, a, b, &rand);
 }

@@ -1,14 +1,11 @@
 -- Cells of a matrix of C columns, what is written to them, and the rotation.
-use Prim.Native.Nat.{ℕ, _+_, _*_, _%_}
+use Prim.Native.Nat.{ℕ, _+_, _%_}
 use mathlib.Core.List.{List}
 use lib.ListN.{take, drop, getD}
 use lib.Bits.{bitXor}
 use Rattle.lists.specs.Zip.{zipAt, tabulate}
 use Rattle.profile.specs.Profile.{cellWords}
-
--- the first word of a cell
-abbrev pub place : ℕ → ℕ → ℕ → ℕ
-place C row col = cellWords * (row * C + col)
+use Rattle.places.specs.Places.{place}
 
 -- the cell that starts at a word
 unfoldable pub cellFrom : ℕ → List ℕ → List ℕ

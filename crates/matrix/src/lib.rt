@@ -1,33 +1,23 @@
 // The lent matrix: its cells, and what is written to them from the sponge's output.
+use places::Column;
+use places::RowStart;
 use profile::Profile;
 ghost use mathlib.Core.Path.{_≡_};
-ghost use Prim.Native.Nat.{_+_, _*_, _≤_, _<_, _^_};
+ghost use Prim.Native.Nat.{_+_, _≤_};
 ghost use lib.ListN.{length};
 ghost use lib.Bits.{bitXor};
 ghost use Rattle.lists.specs.Zip.{zipAt, xorInto};
 ghost use Rattle.profile.specs.Profile.{cellWords};
-ghost use Rattle.matrix.specs.Cells.{place, cellFrom, cellAt, rotated};
+ghost use Rattle.places.specs.Places.{cellStart};
+ghost use Rattle.matrix.specs.Cells.{cellFrom, rotated};
 
-// Rows and columns count different things; neither can be given where the other belongs.
-pub struct Row(pub usize);
-
-pub struct Column(pub usize);
-
-// The first word of a cell.
-pub fn cell_start(row: Row, col: Column, columns: usize) -> usize
-    requires { ⌜ place columns (row .0) (col .0) < 2 ^ 64 ⌝ }
-    ensures { λ r. ⌜ r ≡ place columns (row .0) (col .0) ⌝ }
-{
-    Profile::CELL_WORDS * (row.0 * columns + col.0)
-}
-
-// The twelve words of a cell, as a part of the matrix.
-pub fn cell(m: &[u64], row: Row, col: Column, columns: usize) -> &[u64]
-    requires { ⌜ place columns (row .0) (col .0) + cellWords ≤ length (now m) ⌝ }
-    ensures { λ r. ⌜ now r ≡ cellAt columns (row .0) (col .0) (now (m .entry)) ⌝ }
+// The twelve words of the cell in a column of the row that starts there, as a part of the matrix.
+pub fn cell(m: &[u64], row: RowStart, col: Column) -> &[u64]
+    requires { ⌜ cellStart row (col .0) + cellWords ≤ length (now m) ⌝ }
+    ensures { λ r. ⌜ now r ≡ cellFrom (cellStart row (col .0)) (now (m .entry)) ⌝ }
     ensures { λ r. ⌜ length (now r) ≡ cellWords ⌝ }
 {
-    let a = cell_start(row, col, columns);
+    let a = row.cell_start(col);
     let e = a + Profile::CELL_WORDS;
     &m[a..e]
 }

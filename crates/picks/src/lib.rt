@@ -1,6 +1,6 @@
 // Rows and columns picked by words of the output.
 use columns::Picks;
-use matrix::Column;
+use places::Column;
 use settings::Parameters;
 ghost use mathlib.Core.Path.{_≡_};
 ghost use Prim.Native.Nat.{_-_, _%_, _<_};

@@ -1,8 +1,9 @@
 // A run of the sponge over the matrix: the input, Setup and the visits, then the last cell.
 use input::absorb_input;
-use matrix::Column;
-use matrix::Row;
 use matrix::cell;
+use places::Column;
+use places::Row;
+use places::RowStart;
 use profile::Profile;
 use settings::Parameters;
 use setup::set_up;
@@ -68,6 +69,6 @@ pub fn finish(s: &mut [u64; 16], ran: Ran, m: &[u64], p: Parameters) -> u64
     requires { ⌜ (1 ≤ p .columns) × (ran .row0 .0 < p .rows) × (ran .row1 .0 < p .rows) × (matrixWords (settings p) ≤ length (now m)) × (ran .full < 2 ^ 32) ⌝ }
     ensures { λ r. ⌜ (r ≡ ran .full + 1) × (now (s .exit) ≡ finalState (settings p) (walk (work (now (s .entry)) (now (m .entry))) (ran .row0 .0) (ran .row1 .0))) ⌝ }
 {
-    absorb_cell(s, cell(m, ran.row0, Column(0), p.columns));
+    absorb_cell(s, cell(m, RowStart::of(ran.row0, p.columns), Column(0)));
     ran.full + 1
 }

@@ -13,11 +13,11 @@ use Rattle.settings.specs.declared.Parameters.{Parameters}
 use Rattle.setup_order.specs.SetupOrder.{order}
 use Rattle.setup_order.specs.declared.Order.{Order}
 use Rattle.setup_order.proofs.Windows.{row1-lt, prev1-lt}
-use Rattle.columns.specs.Bounds.{Filling}
+use Rattle.columns.specs.Bounds.{startsOf, Filling}
 use Rattle.columns.specs.Columns.{Work, fillColumn, copyColumn, setupColumn}
 use Rattle.columns.proofs.RowLaws.{row-before}
 use Rattle.columns.proofs.View.{Below, Keeps, keeps-same, keeps-then, keeps-loop}
-use Rattle.columns.proofs.ColumnSteps.{Filled, fill-column-keeps, copy-column-keeps, setup-column-keeps}
+use Rattle.columns.proofs.ColumnSteps.{RowsBefore, Filled, fill-column-keeps, copy-column-keeps, setup-column-keeps}
 use Rattle.setup.specs.Setup.{fillRow, copyRow, setupRow, rowsWith, setupRows, setup}
 
 -- the first three rows and the others
@@ -28,14 +28,18 @@ rows-split p h =
     let e = ap (λ (n : ℕ). n * p .columns) whole in
     (sym e ∙ add-mul 3 (p .rows - 3) (p .columns), e)
 
-pub filling : (k C n : ℕ) (o : Order) → o ≡ order k → 12 * ((3 + k) * C + C) ≤ n → Filling C (rowsWith k o) n
+before : (k : ℕ) → RowsBefore (rowsWith k (order k))
+before k = record { row1 = row1-lt k; prev0 = omega arith; prev1 = prev1-lt k }
+
+pub filling : (k C n : ℕ) (o : Order) → o ≡ order k → 12 * ((3 + k) * C + C) ≤ n → Filling C (startsOf C (rowsWith k o)) n
 filling k C n o e room =
+    let ends : (row : ℕ) → row < 3 + k → 12 * (row * C) + 12 * C ≤ 12 * ((3 + k) * C) = λ row h. omega (arith, row-before row (3 + k) C h) in
     rw e
     (record {
-      row0 = room;
-      row1 = row-before _ (3 + k) C (row1-lt k);
-      prev0 = row-before (2 + k) (3 + k) C (omega arith);
-      prev1 = row-before _ (3 + k) C (prev1-lt k);
+      row0 = omega arith;
+      row1 = omega (arith, ends _ (before k .row1));
+      prev0 = omega (arith, ends _ (before k .prev0));
+      prev1 = omega (arith, ends _ (before k .prev1));
     })
 
 module _ (S : Settings) (u : Undoes (S .addition)) (n : ℕ) where
@@ -77,7 +81,7 @@ module _ (S : Settings) (u : Undoes (S .addition)) (n : ℕ) where
   unfolding setupRow
   setup-step k inside =
       whole-row (3 + k) (3 + suc k) (add-suc 3 k) (setupColumn S (rowsWith k (order k)))
-      (λ col lt. setup-column-keeps S u n (rowsWith k (order k)) col (filling k C (12 * n) (order k) refl (omega arith)) lt)
+      (λ col lt. setup-column-keeps S u n (rowsWith k (order k)) col (before k) inside lt)
 
 -- Setup from the state alone to every cell
 pub setup-keeps : (S : Settings) → Undoes (S .addition) → 3 ≤ S .rows

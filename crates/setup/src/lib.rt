@@ -1,8 +1,11 @@
 // Setup: every row of the matrix is written once, and rows before it are revisited.
 use columns::Rows;
+use columns::Starts;
 use first_columns::copy_column;
 use first_columns::fill_column;
-use matrix::Row;
+use places::Column;
+use places::Row;
+use places::RowStart;
 use settings::Parameters;
 use setup_columns::setup_column;
 use setup_order::Order;
@@ -11,20 +14,24 @@ ghost use Prim.Native.Nat.{_+_, _*_, _-_, _≤_, _<_, _^_};
 ghost use lib.ListN.{length};
 ghost use Rattle.profile.specs.Profile.{cellWords};
 ghost use Rattle.settings.specs.Settings.{settings};
-ghost use Rattle.columns.specs.Bounds.{Filling};
+ghost use Rattle.columns.specs.Bounds.{startsOf, Filling};
 ghost use Rattle.columns.specs.Columns.{work};
 ghost use Rattle.setup_order.specs.SetupOrder.{order};
 ghost use Rattle.setup.specs.Setup.{fillRow, copyRow, setupRow, rowsWith, setupRows, setup};
 
-// Row 0. Each row function answers how many reduced calls it made.
+// Row 0. Each row function finds where its rows start, fills a row from its last column down, and answers how many reduced calls it
+// made.
 fn fill_row(s: &mut [u64; 16], m: &mut [u64], p: Parameters) -> u64
     requires { ⌜ cellWords * p .columns ≤ length (now m) ⌝ }
     ensures { λ r. ⌜ (r ≡ p .columns) × (work (now (s .exit)) (now (m .exit)) ≡ fillRow (settings p) (work (now (s .entry)) (now (m .entry)))) ⌝ }
 {
+    let row0 = RowStart::of(Row(0), p.columns);
     let mut calls: u64 = 0;
     let mut col = 0;
+    let mut mirror = p.columns;
     while col < p.columns {
-        fill_column(s, m, col, p);
+        mirror -= 1;
+        fill_column(s, m, row0, Column(mirror));
         calls += 1;
         col += 1;
     }
@@ -36,10 +43,14 @@ fn copy_row(s: &mut [u64; 16], m: &mut [u64], prev0: Row, row0: Row, p: Paramete
     requires { ⌜ (prev0 .0 * p .columns + p .columns ≤ row0 .0 * p .columns) × (cellWords * (row0 .0 * p .columns + p .columns) ≤ length (now m)) ⌝ }
     ensures { λ r. ⌜ (r ≡ p .columns) × (work (now (s .exit)) (now (m .exit)) ≡ copyRow (settings p) (prev0 .0) (row0 .0) (work (now (s .entry)) (now (m .entry)))) ⌝ }
 {
+    let from = RowStart::of(prev0, p.columns);
+    let to = RowStart::of(row0, p.columns);
     let mut calls: u64 = 0;
     let mut col = 0;
+    let mut mirror = p.columns;
     while col < p.columns {
-        copy_column(s, m, prev0, row0, col, p);
+        mirror -= 1;
+        copy_column(s, m, from, to, Column(col), Column(mirror), p);
         calls += 1;
         col += 1;
     }
@@ -48,13 +59,16 @@ fn copy_row(s: &mut [u64; 16], m: &mut [u64], prev0: Row, row0: Row, p: Paramete
 
 // A row from 3 on.
 fn setup_row(s: &mut [u64; 16], m: &mut [u64], rows: Rows, p: Parameters) -> u64
-    requires { ⌜ Filling (p .columns) rows (length (now m)) ⌝ }
+    requires { ⌜ Filling (p .columns) (startsOf (p .columns) rows) (length (now m)) ⌝ }
     ensures { λ r. ⌜ (r ≡ p .columns) × (work (now (s .exit)) (now (m .exit)) ≡ setupRow (settings p) rows (work (now (s .entry)) (now (m .entry)))) ⌝ }
 {
+    let starts = Starts::of(rows, p.columns);
     let mut calls: u64 = 0;
     let mut col = 0;
+    let mut mirror = p.columns;
     while col < p.columns {
-        setup_column(s, m, rows, col, p);
+        mirror -= 1;
+        setup_column(s, m, starts, Column(col), Column(mirror), p);
         calls += 1;
         col += 1;
     }

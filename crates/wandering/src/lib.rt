@@ -1,8 +1,10 @@
 // Wandering: the visits, and a record of what they picked where the caller lends one.
 use columns::Rows;
-use matrix::Row;
+use columns::Starts;
 use picks::pick_columns;
 use picks::picked;
+use places::Column;
+use places::Row;
 use settings::Parameters;
 use visit_columns::visit_column;
 ghost use mathlib.Core.Path.{_≡_};
@@ -12,7 +14,7 @@ ghost use lib.ListN.{length, set};
 ghost use Rattle.lists.specs.Zip.{zipAt};
 ghost use Rattle.settings.specs.Settings.{settings};
 ghost use Rattle.settings.specs.Sizes.{visitWords};
-ghost use Rattle.columns.specs.Bounds.{Within};
+ghost use Rattle.columns.specs.Bounds.{startsOf, Within};
 ghost use Rattle.columns.specs.Columns.{work};
 ghost use Rattle.wandering.specs.Visits.{walk, pickedRows, visitColumns, columnPicks};
 ghost use Rattle.wandering.specs.Encoding.{encodePicks};
@@ -47,15 +49,16 @@ fn visit_row(
     record: &mut [u64],
     at: usize,
 ) -> u64
-    requires { ⌜ (0 < p .columns) × Within (p .columns) rows (length (now m)) × (at + 2 * p .columns < 2 ^ 64) ⌝ }
+    requires { ⌜ (0 < p .columns) × Within (p .columns) (startsOf (p .columns) rows) (length (now m)) × (at + 2 * p .columns < 2 ^ 64) ⌝ }
     ensures { λ r. ⌜ (r ≡ p .columns) × (work (now (s .exit)) (now (m .exit)) ≡ visitColumns (settings p) rows (p .columns) (work (now (s .entry)) (now (m .entry)))) × (now («record» .exit) ≡ zipAt (λ x y. y) at (now («record» .entry)) (encodePicks (columnPicks (settings p) rows (p .columns) (work (now (s .entry)) (now (m .entry)))))) ⌝ }
 {
+    let starts = Starts::of(rows, p.columns);
     let mut next = pick_columns(s, p);
     let mut calls: u64 = 0;
     let mut col = 0;
     while col < p.columns {
         note_pair(record, at + 2 * col, next.col0.0, next.col1.0);
-        next = visit_column(s, m, rows, col, next, p);
+        next = visit_column(s, m, starts, Column(col), next, p);
         calls += 1;
         col += 1;
     }

@@ -6,7 +6,7 @@ use Rattle.setup_columns.proofs.setup_column.Tie as tie
 
 returns : tie.Need-returns
 unfolding setupColumn
-returns c = cc
+returns c r e = cc (c .before .before .write-setup .ensures r e, c .before .before .before .before .before .duplex-setup .ensures r e)
 
 pub setup-column-spec : {M : Type 1} → statement M
 setup-column-spec =

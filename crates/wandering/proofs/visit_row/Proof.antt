@@ -1,13 +1,13 @@
 -- `visit_row` meets its contract. The loop's invariant: work and record are those of the first col columns, each a reduced call, and p are the
 -- picks of the next. Assumes nothing.
-use mathlib.Core.Path.{_≡_, refl, sym, ap, subst, _∙_}
+use mathlib.Core.Path.{_≡_, refl, sym, ap, _∙_}
 use Prim.Native.Nat.{ℕ, _≤_, _-_}
 use native.Mathlib.Omega.{arith}
 use lib.ListN.{length}
 use Rattle.lists.specs.Zip.{zipAt}
 use Rattle.lists.proofs.ZipLaws.{zipAt-none}
 use Rattle.lists.proofs.LoopLaws.{loop-none, loop-more}
-use Rattle.columns.specs.Bounds.{Within, Picked}
+use Rattle.columns.specs.Bounds.{AtRows, Picked}
 use Rattle.settings.specs.Settings.{settings}
 use Rattle.columns.specs.declared.Picks.{Picks}
 use Rattle.columns.specs.Columns.{Work, work, picks, visitColumn}
@@ -19,21 +19,21 @@ use Rattle.wandering.proofs.visit_row.Statement.{statement}
 use Rattle.wandering.proofs.visit_row.Tie as tie
 
 abbrev Inv-loop : tie.InvT-loop
-Inv-loop s₀ m₀ rows p record₀ at next₀ calls₀ col₀ s m «record» next calls col = (col ≤ p .columns) × (calls ≡ col) × (length m ≡ length m₀) × (length «record» ≡ length record₀) × (work s m ≡ visitColumns (settings p) rows col (work s₀ m₀)) × («record» ≡ zipAt (λ (x y : ℕ). y) at record₀ (encodePicks (columnPicks (settings p) rows col (work s₀ m₀)))) × Picked (settings p) s next
+Inv-loop s₀ m₀ p record₀ at starts next₀ calls₀ col₀ s m «record» next calls col = (col ≤ p .columns) × (calls ≡ col) × (length m ≡ length m₀) × (length «record» ≡ length record₀) × Picked (settings p) s next × AtRows (p .columns) starts (λ r. (work s m ≡ visitColumns (settings p) r col (work s₀ m₀)) × («record» ≡ zipAt (λ (x y : ℕ). y) at record₀ (encodePicks (columnPicks (settings p) r col (work s₀ m₀)))))
 
 abbrev μ-loop : tie.MeasureT-loop
-μ-loop s₀ m₀ rows p record₀ at next₀ calls₀ col₀ s m «record» next calls col = p .columns - col
+μ-loop s₀ m₀ p record₀ at starts next₀ calls₀ col₀ s m «record» next calls col = p .columns - col
 
 loop-holds : tie.Need-loop-holds Inv-loop μ-loop
 unfolding visitColumns columnPicks encodePicks
 loop-holds c =
-    (omega arith, refl, refl, refl, loop-none _ _, sym (zipAt-none _ _ _), c .pick-columns .ensures)
+    (omega arith, refl, refl, refl, c .pick-columns .ensures, λ r e. (loop-none _ _, sym (zipAt-none _ _ _)))
 
 visit-column-requires : tie.Need-visit-column-requires Inv-loop μ-loop
 visit-column-requires c κs =
     let head = c .before .before .before .before .before .before .before .before in
-    let start = head .before .before .before .before .before in
-    (omega arith, head .loop .inv .6 .col0, head .loop .inv .6 .col1, subst (Within (start .args .p .columns) (start .args .rows)) (sym (head .loop .inv .2)) (start .pre .1))
+    let d = head .loop .inv in
+    (omega arith, d .4 .col0, d .4 .col1, rw (head .before .before .before .of .ensures, d .2) (head .before .before .before .before .before .before .pre .1))
 
 loop-again : tie.Need-loop-again Inv-loop μ-loop
 unfolding visitColumns
@@ -41,30 +41,33 @@ loop-again c =
     let visited = c .before .before .visit-column in
     let noted = c .before .before .before .before .before .before .before .note-pair in
     let head = c .before .before .before .before .before .before .before .before .before .before .before in
-    let a = head .before .before .before .before .before .args in
+    let a = head .before .before .before .before .before .before .args in
     let v = head .loop in (
       omega (arith, c .before .before .before .before .before .before .before .before .before .if1 .taken),
       omega (arith, v .inv .1),
       visited .kept .1 .0 ∙ v .inv .2,
       noted .kept .0 ∙ v .inv .3,
-      loop-more _ _ _ _ _ (v .inv .4)
-          (visit-column-done (settings (a .p)) (a .rows) (v .col) (v .next) (v .s) (v .m) _ _ (visited .ensures .1) (visited .ensures .2)
-          ∙ ap (λ (q : Picks). visitColumn (settings (a .p)) (a .rows) (v .col) q (work (v .s) (v .m))) (v .inv .6 .is)),
-      noted .ensures
-          ∙ column-noted (settings (a .p)) (a .rows) _ (v .col) (a .at) _ (v .«record») (v .next) (v .inv .5)
-          (v .inv .6 .is ∙ ap (λ (w : Work). picks (settings (a .p)) (w .state)) (v .inv .4)),
       visited .ensures .0,
+      λ r e. (
+        loop-more _ _ _ _ _ (v .inv .5 r e .0)
+            (visit-column-done (settings (a .p)) r (v .col) (v .next) (v .s) (v .m) _ _ (visited .ensures .1 r e) (visited .ensures .2 r e)
+            ∙ ap (λ (q : Picks). visitColumn (settings (a .p)) r (v .col) q (work (v .s) (v .m))) (v .inv .4 .is)),
+        noted .ensures
+            ∙ column-noted (settings (a .p)) r _ (v .col) (a .at) _ (v .«record») (v .next) (v .inv .5 r e .1)
+            (v .inv .4 .is ∙ ap (λ (w : Work). picks (settings (a .p)) (w .state)) (v .inv .5 r e .0)),
+      ),
     )
 
 returns : tie.Need-returns Inv-loop μ-loop
 returns c =
-    let a = c .before .before .before .before .before .before .before .args in
+    let a = c .before .before .before .before .before .before .before .before .args in
     let v = c .before .before .loop in
     let at-end : v .col ≡ a .p .columns = omega arith in
-    (omega arith, rw at-end at (v .inv .4), rw at-end at (v .inv .5))
+    let done = v .inv .5 (a .rows) (c .before .before .before .before .before .of .ensures) in
+    (omega arith, rw at-end at (done .0), rw at-end at (done .1))
 
 pub visit-row-spec : {M : Type 1} → statement M
 visit-row-spec =
     tie.close
-    (tie.spec Inv-loop μ-loop (omega arith) loop-holds (omega arith) (omega arith) (omega arith) visit-column-requires (omega arith)
+    (tie.spec Inv-loop μ-loop (omega arith) (omega arith) loop-holds (omega arith) (omega arith) (omega arith) visit-column-requires (omega arith)
     (omega arith) (omega arith) loop-again (λ c. c .before .before .loop .inv .2) (λ c. c .before .before .loop .inv .3) returns)

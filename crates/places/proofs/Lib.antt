@@ -1,0 +1,2 @@
+-- The laws of places.
+pub mod PlaceLaws

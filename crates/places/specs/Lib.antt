@@ -1,0 +1,2 @@
+-- Where rows and cells of the lent matrix start.
+pub mod Places
