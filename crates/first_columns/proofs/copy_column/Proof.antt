@@ -1,7 +1,16 @@
 -- `copy_column` meets its contract: the duplex of the cell, then the write. Assumes nothing.
+use mathlib.Core.Path.{ap, _∙_}
+use Prim.Native.Nat.{ℕ}
 use native.Mathlib.Omega.{arith}
+use mathlib.Core.List.{List}
+use denote.Ref.{now}
+use Rattle.lists.specs.Zip.{zipAt, xorInto}
+use Rattle.sponge.specs.Sponge.{rand}
+use Rattle.settings.specs.Settings.{settings}
+use Rattle.places.specs.Places.{place}
 use Rattle.places.proofs.PlaceLaws.{start-place}
-use Rattle.columns.specs.Columns.{copyColumn}
+use Rattle.matrix.specs.Cells.{cellFrom}
+use Rattle.columns.specs.Columns.{work, duplexed, copyColumn}
 use Rattle.first_columns.proofs.copy_column.Statement.{statement}
 use Rattle.first_columns.proofs.copy_column.Tie as tie
 
@@ -9,10 +18,17 @@ returns : tie.Need-returns
 unfolding copyColumn
 returns c q e r f =
     let start = c .before .before .before .before .before .before .before .before .before .before .before .before .before .before in
-    let a = start .args in
-    let from = start-place (a .p .columns) q (a .prev0) e (a .col .0) in
-    let to = start-place (a .p .columns) r (a .row0) f (a .mirror .0) in
-    cc (from, to, start .pre .1)
+    let args = start .args in
+    let m = now (args .m) in
+    let C = args .p .columns in
+    let from = start-place C q (args .prev0) e (args .col .0) in
+    let a = c .before .before .before .before .before .before .before .before .cell-start .ensures ∙ from in
+    let b = c .before .before .before .before .before .before .before .cell-start2 .ensures ∙ start-place C r (args .row0) f (args .mirror .0) ∙ ap (place C r) (start .pre .1) in
+    let read = c .before .before .before .before .before .before .before .before .before .before .cell .ensures .0 ∙ ap (λ (n : ℕ). cellFrom n m) from in
+    let call = c .before .before .before .before .before .before .before .before .before .duplex .ensures ∙ ap (λ (words : List ℕ). duplexed (settings (args .p)) words (now (args .s))) read in
+    let out = c .before .before .before .before .before .output .ensures ∙ ap rand call in
+    let put = c .before .before .put-xored .ensures ∙ (λ i. zipAt (λ (x y : ℕ). y) (b i) m (xorInto (cellFrom (a i) m) (out i))) in
+    λ i. work (call i) (put i)
 
 pub copy-column-spec : {M : Type 1} → statement M
 copy-column-spec =
