@@ -3,7 +3,7 @@ use mathlib.Core.Path.{_≡_}
 use Prim.Native.Nat.{ℕ, _≤_, _<_, _^_}
 use mathlib.Core.List.{List}
 use Rattle.settings.specs.Settings.{Settings}
-use Rattle.places.specs.Places.{rowStart, firstWord, startAt, cellStart}
+use Rattle.places.specs.Places.{rowStart, startAt, cellStart}
 use Rattle.places.specs.declared.Row.{Row}
 use Rattle.places.specs.declared.RowStart.{RowStart}
 use Rattle.columns.specs.Columns.{picks}
@@ -26,13 +26,6 @@ pub record Within (C : ℕ) (a : Starts) (n : ℕ) : Type 0 where
   pub row0 : cellStart (a .row0) C ≤ n
   pub row1 : cellStart (a .row1) C ≤ n
   pub prev0 : cellStart (a .prev0) C ≤ n
-  pub prev1 : cellStart (a .prev1) C ≤ n
-
--- the same of the rows of a Setup step; prev0, which is read while row0 is written, ends before it
-pub record Filling (C : ℕ) (a : Starts) (n : ℕ) : Type 0 where
-  pub row0 : cellStart (a .row0) C ≤ n
-  pub row1 : cellStart (a .row1) C ≤ n
-  pub prev0 : cellStart (a .prev0) C ≤ firstWord (a .row0)
   pub prev1 : cellStart (a .prev1) C ≤ n
 
 -- what the output of a state picks, which is two columns

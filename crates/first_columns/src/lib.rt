@@ -1,7 +1,7 @@
 // A column of Setup's first three rows. The row that is filled is written from its last column down, in the column `mirror`.
 use matrix::cell;
 use matrix::put_cell;
-use matrix::put_xored;
+use matrix::xored;
 use places::Column;
 use places::RowStart;
 use settings::Parameters;
@@ -17,7 +17,7 @@ ghost use Rattle.permutation.specs.Round.{rounds};
 ghost use Rattle.profile.specs.Profile.{reducedRounds, cellWords};
 ghost use Rattle.sponge.specs.Sponge.{rand};
 ghost use Rattle.settings.specs.Settings.{settings};
-ghost use Rattle.places.specs.Places.{firstWord, cellStart, AtRow};
+ghost use Rattle.places.specs.Places.{cellStart, AtRow};
 ghost use Rattle.columns.specs.Columns.{work, mirrored, copyColumn};
 
 // A column of row 0.
@@ -41,12 +41,12 @@ pub fn copy_column(
     mirror: Column,
     p: Parameters,
 )
-    requires { ⌜ (col .0 < p .columns) × (mirror .0 ≡ mirrored (settings p) (col .0)) × (cellStart prev0 (p .columns) ≤ firstWord row0) × (cellStart row0 (p .columns) ≤ length (now m)) ⌝ }
+    requires { ⌜ (col .0 < p .columns) × (mirror .0 ≡ mirrored (settings p) (col .0)) × (cellStart prev0 (p .columns) ≤ length (now m)) × (cellStart row0 (p .columns) ≤ length (now m)) ⌝ }
     ensures { λ _. ⌜ AtRow (p .columns) prev0 (λ q. AtRow (p .columns) row0 (λ r. work (now (s .exit)) (now (m .exit)) ≡ copyColumn (settings p) q r (col .0) (work (now (s .entry)) (now (m .entry))))) ⌝ }
 {
     duplex(s, cell(m, prev0, col));
-    let a = prev0.cell_start(col);
-    let b = row0.cell_start(mirror);
+    let a = row0.cell_start(mirror);
     let rand = output(s);
-    put_xored(m, a, b, &rand);
+    let words = xored(cell(m, prev0, col), &rand);
+    put_cell(m, a, &words);
 }

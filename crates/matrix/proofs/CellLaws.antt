@@ -1,16 +1,13 @@
 -- Laws of the rotation and of cells. Assumes nothing.
-use mathlib.Core.Path.{_≡_, sym, ap, ap₂, _∙_}
+use mathlib.Core.Path.{_≡_, ap₂, _∙_}
 use Prim.Native.Nat.{ℕ, _+_, _-_, _%_, _<_, _≤_}
 use native.Mathlib.Omega.{arith}
 use native.Mathlib.Nat.{add-sub-cancel-left}
 use mathlib.Core.List.{List}
 use lib.ListN.{length, getD, take, drop, length-take, length-drop}
 use lib.Seq.{getD-take, getD-drop}
-use lib.Bits.{bitXor}
-use Rattle.lists.specs.Zip.{zipAt, xorInto}
 use Rattle.lists.proofs.Words.{AllWords}
-use Rattle.lists.proofs.ZipLaws.{length-tabulate, getD-tabulate, tabulate-words, getD-zip}
-use Rattle.lists.proofs.Parts.{getD-before}
+use Rattle.lists.proofs.ZipLaws.{length-tabulate, getD-tabulate, tabulate-words}
 use Rattle.matrix.specs.Cells.{cellFrom, rotated}
 
 pub length-rotated : (ω : ℕ) (words : List ℕ) → length (rotated ω words) ≡ 12
@@ -38,13 +35,3 @@ module _ (a : ℕ) (m : List ℕ) (fits : a + 12 ≤ length m) where
 pub cell-part : (a p : ℕ) (m : List ℕ) → a ≡ p → take (a + 12 - a) (drop a m) ≡ cellFrom p m
 unfolding cellFrom
 cell-part a p m e = ap₂ (λ (n k : ℕ). take n (drop k m)) (add-sub-cancel-left a 12) e
-
--- a word of an earlier cell, read while a later cell is written
-module _ (a b : ℕ) (m₀ m words done : List ℕ) (apart : a + 12 ≤ b) (fits : a + 12 ≤ length m₀) (len : length words ≡ 12)
-    (inv : m ≡ zipAt (λ (x y : ℕ). y) b m₀ done) where
-  pub xored-word : (j : ℕ) → j < 12 → bitXor (getD m (a + j) 0) (getD words j 0) ≡ getD (xorInto (cellFrom a m₀) words) j 0
-  xored-word j h =
-      ap (λ (x : ℕ). bitXor x (getD words j 0))
-      (ap (λ (l : List ℕ). getD l (a + j) 0) inv ∙ getD-before (λ (x y : ℕ). y) b m₀ done (a + j) (omega arith)
-      ∙ sym (getD-cell a m₀ fits j h))
-      ∙ sym (getD-zip bitXor (cellFrom a m₀) words j (omega (arith, length-cell a m₀ fits)) (omega (arith, len)))

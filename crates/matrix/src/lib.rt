@@ -22,6 +22,20 @@ pub fn cell(m: &[u64], row: RowStart, col: Column) -> &[u64]
     &m[a..e]
 }
 
+// A cell XORed with twelve words.
+pub fn xored(cell: &[u64], words: &[u64]) -> [u64; Profile::CELL_WORDS]
+    requires { ⌜ (length (now cell) ≡ cellWords) × (length (now words) ≡ cellWords) ⌝ }
+    ensures { λ r. ⌜ r ≡ xorInto (now (cell .entry)) (now (words .entry)) ⌝ }
+{
+    let mut r = [0; Profile::CELL_WORDS];
+    let mut j = 0;
+    while j < Profile::CELL_WORDS {
+        r[j] = cell[j] ^ words[j];
+        j += 1;
+    }
+    r
+}
+
 // A cell is written from words that the caller has copied: the compiler then knows that no store to the matrix changes them.
 // Twelve words put in place of the cell that starts at a.
 pub fn put_cell(m: &mut [u64], a: usize, words: &[u64])
@@ -31,18 +45,6 @@ pub fn put_cell(m: &mut [u64], a: usize, words: &[u64])
     let mut j = 0;
     while j < Profile::CELL_WORDS {
         m[a + j] = words[j];
-        j += 1;
-    }
-}
-
-// The cell that starts at a, XORed with twelve words, put in place of the later cell that starts at b.
-pub fn put_xored(m: &mut [u64], a: usize, b: usize, words: &[u64])
-    requires { ⌜ (a + cellWords ≤ b) × (b + cellWords ≤ length (now m)) × (length (now words) ≡ cellWords) ⌝ }
-    ensures { λ _. ⌜ now (m .exit) ≡ zipAt (λ x y. y) b (now (m .entry)) (xorInto (cellFrom a (now (m .entry))) (now (words .entry))) ⌝ }
-{
-    let mut j = 0;
-    while j < Profile::CELL_WORDS {
-        m[b + j] = m[a + j] ^ words[j];
         j += 1;
     }
 }

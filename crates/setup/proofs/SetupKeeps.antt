@@ -13,9 +13,9 @@ use Rattle.settings.specs.declared.Parameters.{Parameters}
 use Rattle.setup_order.specs.SetupOrder.{order}
 use Rattle.setup_order.specs.declared.Order.{Order}
 use Rattle.setup_order.proofs.Windows.{row1-lt, prev1-lt}
-use Rattle.columns.specs.Bounds.{startsOf, Filling}
+use Rattle.columns.specs.Bounds.{startsOf, Within}
 use Rattle.columns.specs.Columns.{Work, fillColumn, copyColumn, setupColumn}
-use Rattle.columns.proofs.RowLaws.{row-before}
+use Rattle.columns.proofs.RowLaws.{row-before, row-more, within}
 use Rattle.columns.proofs.View.{Below, Keeps, keeps-same, keeps-then, keeps-loop}
 use Rattle.columns.proofs.ColumnSteps.{RowsBefore, Filled, fill-column-keeps, copy-column-keeps, setup-column-keeps}
 use Rattle.setup.specs.Setup.{fillRow, copyRow, setupRow, rowsWith, setupRows, setup}
@@ -31,16 +31,11 @@ rows-split p h =
 before : (k : ℕ) → RowsBefore (rowsWith k (order k))
 before k = record { row1 = row1-lt k; prev0 = omega arith; prev1 = prev1-lt k }
 
-pub filling : (k C n : ℕ) (o : Order) → o ≡ order k → 12 * ((3 + k) * C + C) ≤ n → Filling C (startsOf C (rowsWith k o)) n
-filling k C n o e room =
-    let ends : (row : ℕ) → row < 3 + k → 12 * (row * C) + 12 * C ≤ 12 * ((3 + k) * C) = λ row h. omega (arith, row-before row (3 + k) C h) in
+pub step-within : (k C n : ℕ) (o : Order) → o ≡ order k → 12 * ((3 + k) * C + C) ≤ n → Within C (startsOf C (rowsWith k o)) n
+step-within k C n o e room =
     rw e
-    (record {
-      row0 = omega arith;
-      row1 = omega (arith, ends _ (before k .row1));
-      prev0 = omega (arith, ends _ (before k .prev0));
-      prev1 = omega (arith, ends _ (before k .prev1));
-    })
+    (within (4 + k) C n (omega (arith, row-more (3 + k) C)) (rowsWith k (order k)) (omega arith) (omega (arith, before k .row1)) (omega arith)
+    (omega (arith, before k .prev1)))
 
 module _ (S : Settings) (u : Undoes (S .addition)) (n : ℕ) where
   abbrev C : ℕ

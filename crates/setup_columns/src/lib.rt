@@ -1,8 +1,9 @@
 // A column of Setup's rows from 3 on. The row that is filled is written from its last column down, in the column `mirror`.
 use columns::Starts;
 use matrix::cell;
-use matrix::put_xored;
+use matrix::put_cell;
 use matrix::xor_rotated;
+use matrix::xored;
 use places::Column;
 use settings::Parameters;
 use sponge::duplex::duplex_sum3;
@@ -11,12 +12,12 @@ ghost use mathlib.Core.Path.{_≡_};
 ghost use Prim.Native.Nat.{_<_};
 ghost use lib.ListN.{length};
 ghost use Rattle.settings.specs.Settings.{settings};
-ghost use Rattle.columns.specs.Bounds.{AtRows, Filling};
+ghost use Rattle.columns.specs.Bounds.{AtRows, Within};
 ghost use Rattle.columns.specs.Columns.{work, mirrored, duplexed, setupCells, setupWritten, setupColumn};
 
 // What it duplexes.
 fn duplex_setup(s: &mut [u64; 16], m: &[u64], rows: Starts, col: Column, p: Parameters)
-    requires { ⌜ (col .0 < p .columns) × Filling (p .columns) rows (length (now m)) ⌝ }
+    requires { ⌜ (col .0 < p .columns) × Within (p .columns) rows (length (now m)) ⌝ }
     ensures { λ _. ⌜ AtRows (p .columns) rows (λ r. now (s .exit) ≡ duplexed (settings p) (setupCells (settings p) r (col .0) (now (m .entry))) (now (s .entry))) ⌝ }
 {
     duplex_sum3(
@@ -36,15 +37,15 @@ fn write_setup(
     mirror: Column,
     p: Parameters,
 )
-    requires { ⌜ (col .0 < p .columns) × (mirror .0 ≡ mirrored (settings p) (col .0)) × Filling (p .columns) rows (length (now m)) ⌝ }
+    requires { ⌜ (col .0 < p .columns) × (mirror .0 ≡ mirrored (settings p) (col .0)) × Within (p .columns) rows (length (now m)) ⌝ }
     ensures { λ _. ⌜ AtRows (p .columns) rows (λ r. now (m .exit) ≡ setupWritten (settings p) r (col .0) (now (s .entry)) (now (m .entry))) ⌝ }
 {
-    let a = rows.prev0.cell_start(col);
-    let b = rows.row0.cell_start(mirror);
-    let d = rows.row1.cell_start(col);
+    let a = rows.row0.cell_start(mirror);
+    let b = rows.row1.cell_start(col);
     let rand = output(s);
-    put_xored(m, a, b, &rand);
-    xor_rotated(m, d, &rand);
+    let words = xored(cell(m, rows.prev0, col), &rand);
+    put_cell(m, a, &words);
+    xor_rotated(m, b, &rand);
 }
 
 pub fn setup_column(
@@ -55,7 +56,7 @@ pub fn setup_column(
     mirror: Column,
     p: Parameters,
 )
-    requires { ⌜ (col .0 < p .columns) × (mirror .0 ≡ mirrored (settings p) (col .0)) × Filling (p .columns) rows (length (now m)) ⌝ }
+    requires { ⌜ (col .0 < p .columns) × (mirror .0 ≡ mirrored (settings p) (col .0)) × Within (p .columns) rows (length (now m)) ⌝ }
     ensures { λ _. ⌜ AtRows (p .columns) rows (λ r. work (now (s .exit)) (now (m .exit)) ≡ setupColumn (settings p) r (col .0) (work (now (s .entry)) (now (m .entry)))) ⌝ }
 {
     duplex_setup(s, m, rows, col, p);

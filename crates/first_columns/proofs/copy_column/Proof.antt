@@ -17,20 +17,21 @@ use Rattle.first_columns.proofs.copy_column.Tie as tie
 returns : tie.Need-returns
 unfolding copyColumn
 returns c q e r f =
-    let start = c .before .before .before .before .before .before .before .before .before .before .before .before .before .before in
+    let start = c .before .before .before .before .before .before .before .before .before .before .before .before .before .before .before .before .before in
     let args = start .args in
     let m = now (args .m) in
     let C = args .p .columns in
-    let from = start-place C q (args .prev0) e (args .col .0) in
-    let a = c .before .before .before .before .before .before .before .before .cell-start .ensures ∙ from in
-    let b = c .before .before .before .before .before .before .before .cell-start2 .ensures ∙ start-place C r (args .row0) f (args .mirror .0) ∙ ap (place C r) (start .pre .1) in
-    let read = c .before .before .before .before .before .before .before .before .before .before .cell .ensures .0 ∙ ap (λ (n : ℕ). cellFrom n m) from in
-    let call = c .before .before .before .before .before .before .before .before .before .duplex .ensures ∙ ap (λ (words : List ℕ). duplexed (settings (args .p)) words (now (args .s))) read in
-    let out = c .before .before .before .before .before .output .ensures ∙ ap rand call in
-    let put = c .before .before .put-xored .ensures ∙ (λ i. zipAt (λ (x y : ℕ). y) (b i) m (xorInto (cellFrom (a i) m) (out i))) in
+    let from = ap (λ (n : ℕ). cellFrom n m) (start-place C q (args .prev0) e (args .col .0)) in
+    let to = c .before .before .before .before .before .before .before .before .before .before .before .cell-start .ensures ∙ start-place C r (args .row0) f (args .mirror .0) ∙ ap (place C r) (start .pre .1) in
+    let call = c .before .before .before .before .before .before .before .before .before .before .before .before .duplex .ensures ∙ ap (λ (words : List ℕ). duplexed (settings (args .p)) words (now (args .s))) (c .before .before .before .before .before .before .before .before .before .before .before .before .before .cell .ensures .0 ∙ from) in
+    let out = c .before .before .before .before .before .before .before .before .before .output .ensures ∙ ap rand call in
+    let read = c .before .before .before .before .before .before .before .cell2 .ensures .0 ∙ from in
+    let words = c .before .before .before .before .before .xored .ensures ∙ (λ i. xorInto (read i) (out i)) in
+    let put = c .before .before .put-cell .ensures ∙ (λ i. zipAt (λ (x y : ℕ). y) (to i) m (words i)) in
     λ i. work (call i) (put i)
 
 pub copy-column-spec : {M : Type 1} → statement M
 copy-column-spec =
     tie.close
-    (tie.spec (omega arith) (omega arith) (omega arith) (omega arith) (omega arith) (omega arith) (omega arith) (omega arith) returns)
+    (tie.spec (omega arith) (omega arith) (omega arith) (omega arith) (omega arith) (omega arith) (omega arith) (omega arith)
+    (omega arith) (omega arith) returns)
