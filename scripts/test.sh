@@ -11,7 +11,7 @@ export CARGO_NET_OFFLINE=true
 crates='costs deriving checking recorded walk_question walk statements end_states derivation_export'
 libraries='derivation_export sponge_export'
 packages='bench cli derivation-link lyra2 reference sponge-link'
-scripts='c_example c_interface counting derive permute valgrind walk'
+scripts='c_example c_interface counting derive permute row_starts valgrind walk'
 
 need() { # COMMAND PACKAGE
     command -v "$1" >/dev/null 2>&1 && return

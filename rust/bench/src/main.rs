@@ -8,9 +8,10 @@ use lyra2_reference::refusal::check_parameters;
 use std::process::ExitCode;
 
 const USAGE: &str = "\
-usage: bench [table] [--quick]      the tables, in Markdown
-       bench plot FILE [--quick]    time against memory, as an SVG picture
-       bench once PROGRAM R C       one derivation, for a tool that counts instructions
+usage: bench [table] [--quick]         the tables, in Markdown
+       bench table R C .. [--quick]    the same for these numbers of rows and columns
+       bench plot FILE [--quick]       time against memory, as an SVG picture
+       bench once PROGRAM R C          one derivation, for a tool that counts instructions
 --quick makes one pass over the measurements instead of four.";
 
 fn main() -> ExitCode {
@@ -19,7 +20,8 @@ fn main() -> ExitCode {
     words.retain(|word| word != "--quick");
     let words: Vec<&str> = words.iter().map(String::as_str).collect();
     let done = match words[..] {
-        [] | ["table"] => print_tables(quick),
+        [] | ["table"] => print_tables(&table::SHAPES, quick),
+        ["table", ref numbers @ ..] => shapes(numbers).and_then(|s| print_tables(&s, quick)),
         ["plot", file] => draw(file, quick),
         ["once", program, r, c] => once(program, r, c),
         _ => Err(USAGE.to_string()),
@@ -33,10 +35,30 @@ fn main() -> ExitCode {
     }
 }
 
-fn print_tables(quick: bool) -> Result<(), String> {
+/// Pairs of R and C that no check refuses.
+fn shapes(numbers: &[&str]) -> Result<Vec<(u64, u64)>, String> {
+    let mut shapes = Vec::new();
+    for pair in numbers.chunks(2) {
+        let [r, c] = pair else {
+            return Err(USAGE.to_string());
+        };
+        shapes.push(shape(r, c)?);
+    }
+    Ok(shapes)
+}
+
+fn shape(r: &str, c: &str) -> Result<(u64, u64), String> {
+    let number = |text: &str| text.parse().map_err(|_| USAGE.to_string());
+    let (r, c) = (number(r)?, number(c)?);
+    let parameters = table::inputs(r, c).parameters(32);
+    check_parameters(&parameters).map_err(|refusal| refusal.to_string())?;
+    Ok((r, c))
+}
+
+fn print_tables(shapes: &[(u64, u64)], quick: bool) -> Result<(), String> {
     let (programs, missing) = programs::all();
     println!("{}", machine::description());
-    table::print(&programs, quick);
+    table::print(&programs, shapes, quick);
     for line in missing {
         println!("\n{line}");
     }
@@ -58,9 +80,8 @@ fn once(name: &str, r: &str, c: &str) -> Result<(), String> {
     let named = programs.iter().find(|program| program.name == name);
     let names: Vec<_> = programs.iter().map(|program| program.name).collect();
     let program = named.ok_or(format!("the programs are: {}", names.join("; ")))?;
-    let number = |text: &str| text.parse().map_err(|_| USAGE.to_string());
-    let inputs = table::inputs(number(r)?, number(c)?);
-    check_parameters(&inputs.parameters(32)).map_err(|refusal| refusal.to_string())?;
+    let (r, c) = shape(r, c)?;
+    let inputs = table::inputs(r, c);
     (program.derive)(&inputs, &mut Lent::new(&inputs));
     Ok(())
 }

@@ -4,13 +4,17 @@ use crate::measure::{add_pass, measure, passes, Times};
 use crate::programs::{Program, C_SSE2, RUST_FOR_SPEED};
 use lyra2_reference::Inputs;
 
-/// R, C and the number of turns in a pass: 6 MiB twice, then 96 MiB twice.
-const SHAPES: [(u64, u64, usize); 4] = [
-    (1024, 64, 40),
-    (256, 256, 40),
-    (16_384, 64, 8),
-    (4096, 256, 8),
-];
+/// The R and C of the page's tables: 6 MiB twice, then 96 MiB twice.
+pub const SHAPES: [(u64, u64); 4] = [(1024, 64), (256, 256), (16_384, 64), (4096, 256)];
+
+/// The turns of a shape in a pass, fewer where a derivation takes long.
+fn turns((r, c): (u64, u64)) -> usize {
+    if r * c > 1 << 18 {
+        8
+    } else {
+        40
+    }
+}
 
 const HEAD: [&str; 5] = [
     "program",
@@ -40,18 +44,18 @@ pub fn mebibytes(inputs: &Inputs) -> f64 {
 }
 
 /// Measures every shape and prints a table for each.
-pub fn print(programs: &[Program], quick: bool) {
+pub fn print(programs: &[Program], shapes: &[(u64, u64)], quick: bool) {
     let programs: Vec<&Program> = programs.iter().collect();
-    let mut times = SHAPES.map(|_| Vec::new());
+    let mut times = vec![Vec::new(); shapes.len()];
     for _ in 0..passes(quick) {
-        for ((r, c, turns), times) in SHAPES.into_iter().zip(&mut times) {
-            add_pass(times, measure(&inputs(r, c), &programs, turns));
+        for (&(r, c), times) in shapes.iter().zip(&mut times) {
+            add_pass(times, measure(&inputs(r, c), &programs, turns((r, c))));
         }
     }
     println!(
         "Every field holds the minimum and the median of all turns; a ratio above 1 is slower."
     );
-    for ((r, c, _), times) in SHAPES.into_iter().zip(&times) {
+    for (&(r, c), times) in shapes.iter().zip(&times) {
         let inputs = inputs(r, c);
         let (size, turns) = (mebibytes(&inputs), times[0].count());
         println!("\n**{size} MiB:** T 1, R {r}, C {c}, {turns} turns\n");
