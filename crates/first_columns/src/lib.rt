@@ -25,9 +25,9 @@ pub fn fill_column(s: &mut [u64; 16], m: &mut [u64], row0: RowStart, mirror: Col
     requires { ⌜ cellStart row0 (mirror .0) + cellWords ≤ length (now m) ⌝ }
     ensures { λ _. ⌜ (now (s .exit) ≡ rounds plainSum reducedRounds (now (s .entry))) × (now (m .exit) ≡ zipAt (λ x y. y) (cellStart row0 (mirror .0)) (now (m .entry)) (rand (now (s .entry)))) ⌝ }
 {
-    let a = row0.cell_start(mirror);
+    let at = row0.cell_start(mirror);
     let rand = output(s);
-    put_cell(m, a, &rand);
+    put_cell(m, at, &rand);
     reduced_call(s);
 }
 
@@ -45,8 +45,8 @@ pub fn copy_column(
     ensures { λ _. ⌜ AtRow (p .columns) prev0 (λ q. AtRow (p .columns) row0 (λ r. work (now (s .exit)) (now (m .exit)) ≡ copyColumn (settings p) q r (col .0) (work (now (s .entry)) (now (m .entry))))) ⌝ }
 {
     duplex(s, cell(m, prev0, col));
-    let a = row0.cell_start(mirror);
+    let to = row0.cell_start(mirror);
     let rand = output(s);
     let words = xored(cell(m, prev0, col), &rand);
-    put_cell(m, a, &words);
+    put_cell(m, to, &words);
 }

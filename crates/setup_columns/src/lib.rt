@@ -40,12 +40,12 @@ fn write_setup(
     requires { ⌜ (col .0 < p .columns) × (mirror .0 ≡ mirrored (settings p) (col .0)) × Within (p .columns) rows (length (now m)) ⌝ }
     ensures { λ _. ⌜ AtRows (p .columns) rows (λ r. now (m .exit) ≡ setupWritten (settings p) r (col .0) (now (s .entry)) (now (m .entry))) ⌝ }
 {
-    let a = rows.row0.cell_start(mirror);
-    let b = rows.row1.cell_start(col);
+    let to = rows.row0.cell_start(mirror);
+    let back = rows.row1.cell_start(col);
     let rand = output(s);
     let words = xored(cell(m, rows.prev0, col), &rand);
-    put_cell(m, a, &words);
-    xor_rotated(m, b, &rand);
+    put_cell(m, to, &words);
+    xor_rotated(m, back, &rand);
 }
 
 pub fn setup_column(
