@@ -1,46 +1,51 @@
 #!/usr/bin/env bash
-# The loops over the columns of a row multiply no two numbers that the program computes, themselves or in what they call, so no row number
-# by C: where rows start is found before them. Looked for in the form that the compiler is given, where nothing has been moved yet.
+# The loops over the columns of a row, and what they call, multiply no two numbers that the program computes, so no row number by C: where
+# rows start is found before them. Their products by a literal are listed. Looked for in the form that the compiler is given, where nothing
+# has been moved yet.
 set -eu
 cd "$(dirname "$0")/.."
 
-# Words of the form: a product's literal operand is (int ..), a call is (call (direct (fnRef "NAME")) ..), a loop is (loop ..).
-look() { # CRATE ROW_FUNCTION..
-    rt mir "$1" 2>/dev/null | grep -o '"[^"]*"\|[()]\|[^()" ]*' | awk -v crate="$1" -v rows="${*:2}" '
-        $0 == "(" { opened = 1; depth++; loops[depth] = loops[depth - 1]; literal[depth] = 0; head[depth] = ""; next }
-        $0 == ")" {
-            if (head[depth] == "product" && !literal[depth]) products[name, loops[depth] > 0]++
-            depth--; opened = 0; next
-        }
-        opened {
-            opened = 0; head[depth] = $0
+# Of that form: a function is (fn-def "NAME" ..), a call names it as (fnRef "NAME"), a loop is (loop ..), a product (op2 (mul ..) A B), and a
+# literal (int 64 N). A product by 8 or 32 finds an element of a slice or of a table.
+look() { # CRATE LISTED ROW_FUNCTION..
+    rt mir "$1" 2>/dev/null | grep -o '"[^"]*"\|[()]\|[^()" ]*' | awk -v crate="$1" -v listed="$2" -v rows="${*:3}" '
+        $0 == "(" { depth++; head[depth] = ""; literal[depth] = ""; loops[depth] = loops[depth - 1]; next }
+        $0 == ")" { if (head[depth] == "product") product(name, loops[depth] > 0, literal[depth]); depth--; next }
+        head[depth] == "" {
+            head[depth] = $0
             if ($0 == "loop") loops[depth]++
             if ($0 == "mul") head[depth - 1] = "product"
-            if ($0 == "int") literal[depth - 1] = 1
             next
         }
-        head[depth] == "fn-def" && /^"/ { name = $0; known[name] = 1; head[depth] = "in"; next }
-        head[depth] == "fnRef" { calls[name, ++count[name]] = $0; inside[name, count[name]] = loops[depth] > 0 }
-        function visit(f, i) {
+        head[depth] == "int" { literal[depth - 1] = $0; next }
+        head[depth] == "fn-def" && /^"/ { name = plain($0); next }
+        head[depth] == "fnRef" { n = ++calls[name]; callee[name, n] = plain($0); looped[name, n] = loops[depth] > 0 }
+
+        function plain(quoted) { return substr(quoted, 2, length(quoted) - 2) }
+        function product(f, inside, by) {
+            if (by == "8" || by == "32") return
+            found[f, inside] = found[f, inside] " " f "*" (by == "" ? "?" : by)
+        }
+        function reach(f, i) {
             if (f in seen) return
             seen[f] = 1; reached++
-            if (products[f, 0] + products[f, 1] > 0) { print "in " f ", which a column loop calls, two numbers are multiplied"; bad = 1 }
-            for (i = 1; i <= count[f]; i++) visit(calls[f, i])
+            under = under found[f, 0] found[f, 1]
+            for (i = 1; i <= calls[f]; i++) reach(callee[f, i])
         }
         END {
-            n = split(rows, names, " ")
-            for (r = 1; r <= n; r++) {
-                f = "\"" crate "::" names[r] "\""; found = 0
-                for (i = 1; i <= count[f]; i++) if (inside[f, i]) { found = 1; visit(calls[f, i]) }
-                if (!found) { print "no loop with a call in " f; bad = 1 }
-                if (products[f, 1] > 0) { print "in the loop of " f " two numbers are multiplied"; bad = 1 }
+            count = split(rows, names, " ")
+            for (r = 1; r <= count; r++) {
+                f = crate "::" names[r]; inner = 0
+                under = under found[f, 1]
+                for (i = 1; i <= calls[f]; i++) if (looped[f, i]) { inner++; reach(callee[f, i]) }
+                if (!inner) { print f " has no loop with a call"; exit 1 }
             }
-            # The look itself: the function that finds a start does multiply two.
-            if (products["\"places::RowStart::of\"", 0] == 0) { print "no product in places::RowStart::of"; bad = 1 }
-            if (!bad) print crate ": " reached " functions under the loops of " rows ", and no product but by a literal"
-            exit bad
+            # The look itself is tried on the function that finds a start, which multiplies two numbers.
+            if (found["places::RowStart::of", 0] !~ /[*][?]/) { print "no product is seen in places::RowStart::of"; exit 1 }
+            print crate ": " reached " functions under the column loops of " rows "; products:" under
+            exit under != listed
         }'
 }
 
-look setup fill_row copy_row setup_row
-look wandering visit_row
+look setup ' places::RowStart::cell_start*12' fill_row copy_row setup_row
+look wandering ' wandering::visit_row*2 places::RowStart::cell_start*12' visit_row

@@ -1,6 +1,6 @@
 -- What the code of a column asks of the rows that it works on, by their starts.
 use mathlib.Core.Path.{_≡_}
-use Prim.Native.Nat.{ℕ, _≤_, _<_, _^_}
+use Prim.Native.Nat.{ℕ, _≤_, _<_}
 use mathlib.Core.List.{List}
 use Rattle.settings.specs.Settings.{Settings}
 use Rattle.places.specs.Places.{rowStart, startAt, cellStart}

@@ -4,7 +4,7 @@ use places::Column;
 use places::Row;
 use places::RowStart;
 ghost use mathlib.Core.Path.{_≡_};
-ghost use Prim.Native.Nat.{_<_, _^_};
+ghost use Prim.Native.Nat.{_^_};
 ghost use Rattle.columns.specs.Bounds.{startsOf, Within};
 
 // The rows of a Setup step or of a visit, and those of the one before it.

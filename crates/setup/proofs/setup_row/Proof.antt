@@ -4,7 +4,6 @@ use Prim.Native.Nat.{_-_}
 use native.Mathlib.Omega.{arith}
 use Rattle.settings.specs.Settings.{settings}
 use Rattle.columns.specs.declared.Rows.{Rows}
-use Rattle.columns.specs.declared.Starts.{Starts}
 use Rattle.columns.specs.Bounds.{startsOf}
 use Rattle.columns.specs.Columns.{setupColumn}
 use Rattle.columns.proofs.RowLaws.{Done, done-none, done-again, done-end}

@@ -2,7 +2,6 @@
 use mathlib.Core.Path.{ap, _∙_}
 use Prim.Native.Nat.{ℕ}
 use native.Mathlib.Omega.{arith}
-use mathlib.Core.List.{List}
 use lib.Bits.{bitXor}
 use denote.Ref.{now}
 use Rattle.lists.specs.Zip.{zipAt, xorInto}
