@@ -40,9 +40,9 @@ look() { # CRATE LISTED ROW_FUNCTION..
                 for (i = 1; i <= calls[f]; i++) if (looped[f, i]) { inner++; reach(callee[f, i]) }
                 if (!inner) { print f " has no loop with a call"; exit 1 }
             }
+            print crate ": " reached " functions under the column loops of " rows "; products:" under
             # The look itself is tried on the function that finds a start, which multiplies two numbers.
             if (found["places::RowStart::of", 0] !~ /[*][?]/) { print "no product is seen in places::RowStart::of"; exit 1 }
-            print crate ": " reached " functions under the column loops of " rows "; products:" under
             exit under != listed
         }'
 }
