@@ -1,11 +1,12 @@
--- `write_setup` meets its contract: the two writes in their order. Assumes nothing.
-use mathlib.Core.Path.{ap, _∙_}
+-- `write_setup` meets its contract: the two writes in their order. The place of the first is said in full, so that a refusal names the
+-- column that differs. Assumes nothing.
+use mathlib.Core.Path.{_≡_, ap, _∙_}
 use Prim.Native.Nat.{ℕ}
 use native.Mathlib.Omega.{arith}
 use lib.Bits.{bitXor}
 use denote.Ref.{now}
 use Rattle.lists.specs.Zip.{zipAt, xorInto}
-use Rattle.places.specs.Places.{place}
+use Rattle.places.specs.Places.{place, cellStart}
 use Rattle.matrix.specs.Cells.{cellFrom, rotated}
 use Rattle.columns.specs.Columns.{setupWritten}
 use Rattle.columns.proofs.RowLaws.{row0-place, row1-place, prev0-place}
@@ -19,7 +20,8 @@ returns c r e =
     let args = start .args in
     let m = now (args .m) in
     let C = args .p .columns in
-    let to = c .before .before .before .before .before .before .before .before .before .before .before .before .before .before .before .before .cell-start .ensures ∙ row0-place C r e (args .mirror .0) ∙ ap (place C (r .row0 .0)) (start .pre .1) in
+    let placed : c .before .before .before .before .before .before .before .before .before .before .before .before .before .before .before .before .cell-start .result ≡ cellStart (args .rows .row0) (args .mirror .0) = c .before .before .before .before .before .before .before .before .before .before .before .before .before .before .before .before .cell-start .ensures in
+    let to = placed ∙ row0-place C r e (args .mirror .0) ∙ ap (place C (r .row0 .0)) (start .pre .1) in
     let back = c .before .before .before .before .before .before .before .before .before .before .before .before .before .before .before .cell-start2 .ensures ∙ row1-place C r e (args .col .0) in
     let out = c .before .before .before .before .before .before .before .before .before .before .before .before .before .before .output .ensures in
     let read = c .before .before .before .before .before .before .before .before .before .before .before .before .cell .ensures .0 ∙ ap (λ (n : ℕ). cellFrom n m) (prev0-place C r e (args .col .0)) in
