@@ -5,3 +5,4 @@ pub mod Placed
 pub mod LoopLaws
 pub mod Parts
 pub mod Traces
+pub mod Cleared

@@ -48,7 +48,7 @@ module _ {A : Type 0} where
 -- ---- f from a place on
 
 module _ (f : ℕ → ℕ → ℕ) where
-  drop-zip : (n : ℕ) (xs ys : List ℕ) → length ys ≤ n → drop n (zipInto f xs ys) ≡ drop n xs
+  pub drop-zip : (n : ℕ) (xs ys : List ℕ) → length ys ≤ n → drop n (zipInto f xs ys) ≡ drop n xs
   unfolding zipInto
   drop-zip n [] ys h = refl
   drop-zip n (x ∷ xs) [] h = refl

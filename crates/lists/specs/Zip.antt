@@ -1,7 +1,7 @@
 -- Lists of words, place by place.
 use Prim.Native.Nat.{ℕ, zero, suc}
 use mathlib.Core.List.{List, [], _∷_, _++_}
-use lib.ListN.{take, drop}
+use lib.ListN.{take, drop, replicate}
 use lib.Bits.{bitXor}
 
 -- f place by place; the first list keeps what it has beyond the second
@@ -17,6 +17,10 @@ xorInto = zipInto bitXor
 -- words put in place of the first words of a list
 abbrev pub putInto : List ℕ → List ℕ → List ℕ
 putInto = zipInto (λ x y. y)
+
+-- zeros in place of the first n words; what stands after them is kept
+unfoldable pub cleared : ℕ → List ℕ → List ℕ
+cleared n xs = putInto xs (replicate n 0)
 
 -- f place by place from place a on; what stands before and after is kept
 unfoldable pub zipAt : (ℕ → ℕ → ℕ) → ℕ → List ℕ → List ℕ → List ℕ

@@ -1,2 +1,3 @@
 -- The laws of Setup.
 pub mod SetupKeeps
+pub mod SetupWithin

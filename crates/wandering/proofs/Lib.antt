@@ -2,3 +2,4 @@
 pub mod EncodingLaws
 pub mod Recording
 pub mod VisitsUndone
+pub mod VisitsWithin
