@@ -1,5 +1,4 @@
 // The checks of the room in lent memory, after those of the cost question.
-use profile::Profile;
 use refusals::MATRIX_LENGTH;
 use refusals::RECORD_LENGTH;
 use refusals::below;
@@ -7,18 +6,10 @@ use refusals::cost_refusal;
 use refusals::first_of;
 use settings::Lengths;
 use settings::Parameters;
+use settings::matrix_words;
 ghost use mathlib.Core.Path.{_≡_};
 ghost use Prim.Native.Nat.{_+_, _*_, _≤_, _<_, _^_};
-ghost use Rattle.profile.specs.Profile.{cellWords};
 ghost use Rattle.refusals.specs.Checks.{first, plainChecks, recordedChecks};
-
-// The words that so many cells take.
-fn matrix_words(cells: usize) -> usize
-    requires { ⌜ cells ≤ 2 ^ 32 ⌝ }
-    ensures { λ r. ⌜ r ≡ cellWords * cells ⌝ }
-{
-    Profile::CELL_WORDS * cells
-}
 
 // The checks of the cost question, then the length of the lent matrix.
 pub fn plain_refusal(l: Lengths, p: Parameters, matrix: usize) -> u32
@@ -28,11 +19,7 @@ pub fn plain_refusal(l: Lengths, p: Parameters, matrix: usize) -> u32
     if number != 0 {
         return number;
     }
-    first_of(
-        below(matrix_words(p.rows * p.columns), matrix),
-        MATRIX_LENGTH,
-        0,
-    )
+    first_of(below(matrix_words(p), matrix), MATRIX_LENGTH, 0)
 }
 
 // The words that the record of n visits takes.

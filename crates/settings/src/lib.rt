@@ -1,4 +1,9 @@
-// What a caller gives as numbers: T, R and C, and the lengths. There is no function here.
+// What a caller gives as numbers: T, R and C, and the lengths; and how many words of the matrix are used.
+use profile::Profile;
+ghost use mathlib.Core.Path.{_≡_};
+ghost use Prim.Native.Nat.{_<_, _^_};
+ghost use Rattle.settings.specs.Settings.{settings};
+ghost use Rattle.settings.specs.Sizes.{matrixWords};
 
 // T, R and C.
 pub struct Parameters {
@@ -12,4 +17,12 @@ pub struct Lengths {
     pub key: usize,
     pub password: usize,
     pub salt: usize,
+}
+
+// The words of the used matrix.
+pub fn matrix_words(p: Parameters) -> usize
+    requires { ⌜ matrixWords (settings p) < 2 ^ 64 ⌝ }
+    ensures { λ r. ⌜ r ≡ matrixWords (settings p) ⌝ }
+{
+    Profile::CELL_WORDS * (p.rows * p.columns)
 }

@@ -26,15 +26,14 @@ returns c =
 returns-2 : tie.Need-returns-2
 unfolding plainChecks costChecks
 returns-2 c =
-    let a = c .before .before .before .before .before .before .args in
+    let a = c .before .before .before .before .before .args in
     let short = c .before .below .ensures ∙ ap (λ (n : ℕ). broken (n ≤? a .matrix ∷ [])) (c .before .before .matrix-words .ensures) in
-    more-pass (costChecks (a .l) (a .p)) (matrixCheck (a .p) (a .matrix) ∷ []) (c .before .before .before .before .before .cost-refusal .ensures)
-    (omega arith) (c .before .before .before .before .if1 .left) (first-of-is _ _ short (c .first-of .ensures) first-none)
+    more-pass (costChecks (a .l) (a .p)) (matrixCheck (a .p) (a .matrix) ∷ []) (c .before .before .before .before .cost-refusal .ensures)
+    (omega arith) (c .before .before .before .if1 .left) (first-of-is _ _ short (c .first-of .ensures) first-none)
 
 pub plain-refusal-spec : {M : Type 1} → statement M
 plain-refusal-spec =
     tie.close
     (tie.spec (omega arith) returns
-    (λ c. omega (arith, cells _ _ (sym (c .before .before .cost-refusal .ensures) ∙ c .before .if1 .left)))
-    (λ c κs. omega (arith, cells _ _ (sym (c .before .before .cost-refusal .ensures) ∙ c .before .if1 .left)))
+    (λ c κs. omega (arith, cells _ _ (sym (c .before .cost-refusal .ensures) ∙ c .if1 .left)))
     (omega arith) (omega arith) returns-2)
