@@ -1,11 +1,11 @@
 // The check of a stored key.
+use clearing::clear_state;
 use costs::refused;
 use costs::spent;
 use derivation::Costs;
 use key::compare;
+use plain_runs::run_plain;
 use room_refusals::plain_refusal;
-use runs::finish;
-use runs::run;
 use settings::Lengths;
 use settings::Parameters;
 ghost use mathlib.Core.Path.{_≡_};
@@ -32,18 +32,17 @@ fn check_accepted(
     ensures { λ r. ⌜ Compared p (input (now (password .entry)) (now (salt .entry)) (length (now (stored .entry)))) (now (stored .entry)) (now (matrix .entry)) (now (matrix .exit)) (r .costs) (flag (r .same)) ⌝ }
 {
     let mut s = [0; 16];
-    let mut none: [u64; 0] = [];
-    let ran = run(&mut s, password, salt, stored.len(), p, matrix, &mut none);
-    let full = finish(&mut s, ran, matrix, p);
+    let ran = run_plain(&mut s, password, salt, stored.len(), p, matrix);
     let c = compare(&mut s, stored);
-    let costs = spent(full + c.calls, ran.reduced, p);
+    let left = clear_state(&mut s);
+    let costs = spent(ran.full + (c.calls + left), ran.reduced, p);
     Checked {
         costs,
         same: c.same,
     }
 }
 
-// Whether a stored key is the key of its length. The matrix is left as by the plain derivation.
+// Whether a stored key is the key of its length. The used matrix is left as zeros.
 pub fn check(
     password: &[u8],
     salt: &[u8],

@@ -67,9 +67,9 @@ module _ (l : Lengths) (p : Parameters) where
         le-trans (mul-le-mul (cells-most (p .rows) (p .columns) (omega arith) (omega arith)) more) (omega arith)
 
     -- the full calls as they are made: those of the input, of the last cell, and between pieces of the key
-    pub full-calls : {full last between : ℕ} → full ≡ inputBlocks l → last ≡ full + 1 → between ≡ callsBetween (l .key) → last + between ≡ fullCost l
+    pub full-calls : {full between : ℕ} → full ≡ inputBlocks l + 1 → between ≡ callsBetween (l .key) → full + between ≡ fullCost l
     unfolding fullCost costChecks
-    full-calls e f g = omega (arith, pieces-calls (l .key) (omega arith))
+    full-calls e f = omega (arith, pieces-calls (l .key) (omega arith))
 
 -- Setup's calls and those of the visits
 pub calls-sum : (R C T : ℕ) → R * C + R * T * C ≡ R * C * (T + 1)

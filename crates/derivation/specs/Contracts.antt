@@ -4,9 +4,10 @@ use mathlib.Core.Path.{_≡_}
 use Prim.Native.Nat.{ℕ}
 use mathlib.Core.List.{List}
 use lib.ListN.{length, replicate}
-use Rattle.lists.specs.Zip.{putInto}
+use Rattle.lists.specs.Zip.{putInto, cleared}
 use Rattle.profile.specs.Profile.{stateWords}
 use Rattle.settings.specs.Settings.{settings}
+use Rattle.settings.specs.Sizes.{matrixWords}
 use Rattle.settings.specs.declared.Parameters.{Parameters}
 use Rattle.input.specs.Input.{Input, lengths}
 use Rattle.key.specs.Key.{sameBytes}
@@ -22,19 +23,23 @@ plainNumber p x matrix = first (plainChecks (lengths x) p (length matrix))
 abbrev pub recordedNumber : Parameters → Input → List ℕ → List ℕ → ℕ
 recordedNumber p x matrix visited = first (recordedChecks (lengths x) p (length matrix) (length visited))
 
+-- what the plain derivation and the check leave in the matrix: zeros in words 0 to 12·R·C - 1
+abbrev pub clearedMatrix : Parameters → Input → List ℕ → List ℕ
+clearedMatrix p x matrix = answered (plainNumber p x matrix) (cleared (matrixWords (settings p)) matrix) matrix
+
 -- the plain derivation
 pub record Derived (p : Parameters) (x : Input) (key matrix key′ matrix′ : List ℕ) (r : Costs) : Type 0 where
   pub answer : r ≡ costAnswer (plainNumber p x matrix) (lengths x) p
   pub key-after : key′ ≡ answered (plainNumber p x matrix) (keyOf (settings p) x matrix) key
-  pub matrix-after : matrix′ ≡ answered (plainNumber p x matrix) (endMatrix (settings p) x matrix) matrix
+  pub matrix-after : matrix′ ≡ clearedMatrix p x matrix
 
 -- the check of a stored key, which answers 1 for yes
 pub record Compared (p : Parameters) (x : Input) (stored matrix matrix′ : List ℕ) (r : Costs) (same : ℕ) : Type 0 where
   pub answer : r ≡ costAnswer (plainNumber p x matrix) (lengths x) p
   pub same-is : same ≡ answered (plainNumber p x matrix) (flag (sameBytes stored (keyOf (settings p) x matrix))) 0
-  pub matrix-after : matrix′ ≡ answered (plainNumber p x matrix) (endMatrix (settings p) x matrix) matrix
+  pub matrix-after : matrix′ ≡ clearedMatrix p x matrix
 
--- the recorded derivation, which also answers the state after the last visit
+-- the recorded derivation, which also answers the state after the last visit and keeps the end matrix
 pub record Recorded (p : Parameters) (x : Input) (key matrix visited key′ matrix′ visited′ : List ℕ) (r : Costs) (state : List ℕ) : Type 0 where
   pub answer : r ≡ costAnswer (recordedNumber p x matrix visited) (lengths x) p
   pub state-is : state ≡ answered (recordedNumber p x matrix visited) (endState (settings p) x matrix) (replicate stateWords 0)

@@ -1,11 +1,11 @@
 // The plain derivation.
+use clearing::clear_state;
 use costs::refused;
 use costs::spent;
 use derivation::Costs;
 use key::squeeze;
+use plain_runs::run_plain;
 use room_refusals::plain_refusal;
-use runs::finish;
-use runs::run;
 use settings::Lengths;
 use settings::Parameters;
 ghost use mathlib.Core.Path.{_≡_};
@@ -25,14 +25,13 @@ fn derive_accepted(
     ensures { λ r. ⌜ Derived p (input (now (password .entry)) (now (salt .entry)) (length (now (key .entry)))) (now (key .entry)) (now (matrix .entry)) (now (key .exit)) (now (matrix .exit)) r ⌝ }
 {
     let mut s = [0; 16];
-    let mut none: [u64; 0] = [];
-    let ran = run(&mut s, password, salt, key.len(), p, matrix, &mut none);
-    let full = finish(&mut s, ran, matrix, p);
+    let ran = run_plain(&mut s, password, salt, key.len(), p, matrix);
     let between = squeeze(&mut s, key);
-    spent(full + between, ran.reduced, p)
+    let left = clear_state(&mut s);
+    spent(ran.full + (between + left), ran.reduced, p)
 }
 
-// The plain derivation: fills the key and the used matrix.
+// The plain derivation: fills the key, works in the used matrix and leaves zeros there.
 pub fn derive(
     password: &[u8],
     salt: &[u8],

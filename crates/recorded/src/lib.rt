@@ -1,4 +1,5 @@
 // The recorded derivation: the plain one, with its visits noted down and the state after the last of them.
+use clearing::clear_state;
 use costs::refused;
 use costs::spent;
 use derivation::Costs;
@@ -36,7 +37,8 @@ fn record_accepted(
     let state = s;
     let full = finish(&mut s, ran, matrix, p);
     let between = squeeze(&mut s, key);
-    let costs = spent(full + between, ran.reduced, p);
+    let left = clear_state(&mut s);
+    let costs = spent(full + (between + left), ran.reduced, p);
     Recording { costs, state }
 }
 

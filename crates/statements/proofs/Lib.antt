@@ -2,4 +2,5 @@
 pub mod Cases
 pub mod Independence
 pub mod SameKey
+pub mod NothingLeft
 pub mod SetupAlone

@@ -72,11 +72,3 @@ module _ (p : Parameters) (x : Input) where
           λ yes. equal-of-same stored _ (flag-yes _ (sym answer ∙ yes)) ∙ e,
           λ equal. answer ∙ ap flag (ap (sameBytes stored) (e ∙ sym equal) ∙ same-of-equal stored),
         )
-
--- ---- over the same matrix, plain and recorded leave the same end matrix
-pub same-matrix : (p : Parameters) (x : Input) (matrix key₁ key₂ visited key₁′ matrix₁′ key₂′ matrix₂′ visited′ : List ℕ) (r₁ r₂ : Costs) (state : List ℕ)
-    → Derived p x key₁ matrix key₁′ matrix₁′ r₁ → Recorded p x key₂ matrix visited key₂′ matrix₂′ visited′ r₂ state
-    → r₁ .refusal ≡ 0 → r₂ .refusal ≡ 0 → matrix₁′ ≡ matrix₂′
-same-matrix p x matrix key₁ key₂ visited key₁′ matrix₁′ key₂′ matrix₂′ visited′ r₁ r₂ state plain recorded z₁ z₂ =
-    answered-is _ _ (accepted-number (lengths x) p (plain .answer) z₁) (plain .matrix-after)
-    ∙ sym (answered-is _ _ (accepted-number (lengths x) p (recorded .answer) z₂) (recorded .matrix-after))

@@ -3,20 +3,20 @@ use mathlib.Core.Path.{_∙_}
 use native.Mathlib.Omega.{arith}
 use Rattle.refusals.proofs.Accepted.{recorded-accepted}
 use Rattle.derivation.proofs.Answering.{answered-yes, cost-yes}
-use Rattle.runs.proofs.Ends.{state-after, matrix-after, can-finish, key-after, counts-fit, costs-after}
+use Rattle.runs.proofs.Ends.{state-after, matrix-after, finished, full-with-last, can-finish, key-after, plus-cleared, counts-fit, costs-after}
 use Rattle.recorded.proofs.record_accepted.Statement.{statement}
 use Rattle.recorded.proofs.record_accepted.Tie as tie
 
 returns : tie.Need-returns
 returns c =
-    let none = c .before .before .before .before .before .before .before .before .before .before .before .before .before .before .before .before .before .before .before .before .before .before .pre in
-    let run = c .before .before .before .before .before .before .before .before .before .before .before .before .before .run .ensures in
-    let end = c .before .before .before .before .before .before .finish .ensures in
-    let key = c .before .before .before .squeeze .ensures in
+    let none = c .before .before .before .before .before .before .before .before .before .before .before .before .before .before .before .before .before .before .before .before .before .before .before .before .pre in
+    let run = c .before .before .before .before .before .before .before .before .before .before .before .before .before .before .before .run .ensures in
+    let last = c .before .before .before .before .before .before .before .before .finish .ensures in
+    let key = c .before .before .before .before .before .squeeze .ensures in
     record {
-      answer = cost-yes _ _ none (costs-after run (recorded-accepted _ _ _ _ none) (end .0) (key .2) (c .spent .ensures));
+      answer = cost-yes _ _ none (costs-after _ _ _ (recorded-accepted _ _ _ _ none) (full-with-last run (last .0)) (plus-cleared (key .2) (c .before .clear-state .ensures .0)) (run .reduced) (c .spent .ensures));
       state-is = answered-yes _ _ none (state-after run);
-      key-after = answered-yes _ _ none (key .0 ∙ key-after run (end .1));
+      key-after = answered-yes _ _ none (key .0 ∙ key-after _ _ _ (finished run (last .1)));
       matrix-after = answered-yes _ _ none (matrix-after run);
       visited-after = answered-yes _ _ none (run .noted);
     }
@@ -25,7 +25,14 @@ pub record-accepted-spec : {M : Type 1} → statement M
 record-accepted-spec =
     tie.close
     (tie.spec (λ c κs. recorded-accepted _ _ _ _ (c .before .before .before .before .before .before .before .before .pre))
-    (λ c κs. can-finish (c .before .before .before .before .before .before .run .ensures) (recorded-accepted _ _ _ _ (c .before .before .before .before .before .before .before .before .before .before .before .before .before .before .before .pre)) (omega (arith, c .before .before .before .before .before .before .run .kept))) (omega arith)
-    (λ c. omega (arith, counts-fit (c .before .before .before .before .before .before .before .before .before .before .before .before .run .ensures) (recorded-accepted _ _ _ _ (c .before .before .before .before .before .before .before .before .before .before .before .before .before .before .before .before .before .before .before .before .before .pre)) (c .before .before .before .before .before .finish .ensures .0) (c .before .before .squeeze .ensures .2)))
-    (λ c κs. omega (arith, counts-fit (c .before .before .before .before .before .before .before .before .before .before .before .before .run .ensures) (recorded-accepted _ _ _ _ (c .before .before .before .before .before .before .before .before .before .before .before .before .before .before .before .before .before .before .before .before .before .pre)) (c .before .before .before .before .before .finish .ensures .0) (c .before .before .squeeze .ensures .2)))
+    (λ c κs. can-finish (c .before .before .before .before .before .before .run .ensures) (recorded-accepted _ _ _ _ (c .before .before .before .before .before .before .before .before .before .before .before .before .before .before .before .pre)) (omega (arith, c .before .before .before .before .before .before .run .kept))) (omega arith) (omega arith)
+    (λ c.
+    let run = c .before .before .before .before .before .before .before .before .before .before .before .before .before .before .run .ensures in
+    omega (arith, counts-fit _ _ _ (recorded-accepted _ _ _ _ (c .before .before .before .before .before .before .before .before .before .before .before .before .before .before .before .before .before .before .before .before .before .before .before .pre)) (full-with-last run (c .before .before .before .before .before .before .before .finish .ensures .0)) (plus-cleared (c .before .before .before .before .squeeze .ensures .2) (c .clear-state .ensures .0)) (run .reduced)))
+    (λ c.
+    let run = c .before .before .before .before .before .before .before .before .before .before .before .before .before .before .run .ensures in
+    omega (arith, counts-fit _ _ _ (recorded-accepted _ _ _ _ (c .before .before .before .before .before .before .before .before .before .before .before .before .before .before .before .before .before .before .before .before .before .before .before .pre)) (full-with-last run (c .before .before .before .before .before .before .before .finish .ensures .0)) (plus-cleared (c .before .before .before .before .squeeze .ensures .2) (c .clear-state .ensures .0)) (run .reduced)))
+    (λ c κs.
+    let run = c .before .before .before .before .before .before .before .before .before .before .before .before .before .before .run .ensures in
+    omega (arith, counts-fit _ _ _ (recorded-accepted _ _ _ _ (c .before .before .before .before .before .before .before .before .before .before .before .before .before .before .before .before .before .before .before .before .before .before .before .pre)) (full-with-last run (c .before .before .before .before .before .before .before .finish .ensures .0)) (plus-cleared (c .before .before .before .before .squeeze .ensures .2) (c .clear-state .ensures .0)) (run .reduced)))
     (omega arith) (omega arith) (omega arith) returns)

@@ -1,0 +1,2 @@
+-- The law behind a cleared state.
+pub mod Zeros

@@ -1,0 +1,41 @@
+// Zeros in place of what a derivation worked on, once nothing needs it any more.
+use permutation::round;
+use settings::Parameters;
+use settings::matrix_words;
+ghost use mathlib.Core.Path.{_≡_};
+ghost use Prim.Native.Nat.{_≤_};
+ghost use lib.ListN.{length, replicate};
+ghost use Rattle.lists.specs.Zip.{cleared};
+ghost use Rattle.profile.specs.Profile.{stateWords};
+ghost use Rattle.settings.specs.Settings.{settings};
+ghost use Rattle.settings.specs.Sizes.{matrixWords};
+
+// Zeros in the first n words.
+pub fn clear(words: &mut [u64], n: usize)
+    requires { ⌜ n ≤ length (now words) ⌝ }
+    ensures { λ _. ⌜ now (words .exit) ≡ cleared n (now (words .entry)) ⌝ }
+{
+    let mut j = 0;
+    while j < n {
+        words[j] = 0;
+        j += 1;
+    }
+}
+
+// Zeros in the used matrix.
+pub fn clear_matrix(m: &mut [u64], p: Parameters)
+    requires { ⌜ matrixWords (settings p) ≤ length (now m) ⌝ }
+    ensures { λ _. ⌜ now (m .exit) ≡ cleared (matrixWords (settings p)) (now (m .entry)) ⌝ }
+{
+    clear(m, matrix_words(p));
+}
+
+// Zeros in the state, and a word of it as the answer. A compiler leaves out stores that nothing reads; so a round reads the zeros, which
+// gives zeros again, and the caller adds the answer to a count. The round belongs to no call and is not counted.
+pub fn clear_state(s: &mut [u64; 16]) -> u64
+    ensures { λ r. ⌜ (r ≡ 0) × (now (s .exit) ≡ replicate stateWords 0) ⌝ }
+{
+    *s = [0; 16];
+    round(s);
+    s[0]
+}

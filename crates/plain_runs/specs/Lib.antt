@@ -1,0 +1,2 @@
+-- What a derivation that keeps its key alone leaves.
+pub mod PlainRuns
