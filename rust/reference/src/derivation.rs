@@ -57,7 +57,8 @@ pub struct Checked {
     pub counts: Counts,
 }
 
-/// The recorded derivation: fills the key, the used matrix and the used record.
+/// The recorded derivation: fills the key and the used record, and keeps its end matrix, since comparing
+/// that is what it is for.
 pub fn derive_recorded(
     inputs: &Inputs,
     key: &mut [u8],
@@ -74,22 +75,31 @@ pub fn derive_recorded(
     Ok(run(inputs, key, matrix, &mut note))
 }
 
-/// The plain derivation: fills the key and the used matrix.
+/// The plain derivation: fills the key and leaves zeros in the used matrix.
 pub fn derive(inputs: &Inputs, key: &mut [u8], matrix: &mut [u64]) -> Result<Counts, Refusal> {
     refusal::check_matrix(&inputs.parameters(key.len()), matrix)?;
-    Ok(run(inputs, key, matrix, &mut |_| ()).counts)
+    Ok(run_and_wipe(inputs, key, matrix))
 }
 
-/// The check: derives a key as long as the stored one and says whether they are equal.
+/// The check: derives a key as long as the stored one, says whether they are equal, and leaves zeros in the
+/// used matrix.
 pub fn check(inputs: &Inputs, stored: &[u8], matrix: &mut [u64]) -> Result<Checked, Refusal> {
     refusal::check_matrix(&inputs.parameters(stored.len()), matrix)?;
     let mut key = vec![0; stored.len()];
-    let counts = run(inputs, &mut key, matrix, &mut |_| ()).counts;
+    let counts = run_and_wipe(inputs, &mut key, matrix);
     let matches = equal(&key, stored);
     Ok(Checked { matches, counts })
 }
 
-/// Algorithm 2, for inputs and buffers that no check refuses.
+/// A run without a record, after which the used matrix tells nothing of the password: the caller may lend the
+/// same memory to others.
+fn run_and_wipe(inputs: &Inputs, key: &mut [u8], lent: &mut [u64]) -> Counts {
+    let counts = run(inputs, key, lent, &mut |_| ()).counts;
+    Matrix::new(lent, inputs.r as usize, inputs.c as usize).wipe();
+    counts
+}
+
+/// Algorithm 2, for inputs and buffers that no check refuses. The used matrix then holds the end matrix.
 fn run(
     inputs: &Inputs,
     key: &mut [u8],

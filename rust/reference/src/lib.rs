@@ -12,7 +12,8 @@
 //! | `visits` | 22 to 32 |
 //! | `derivation` | 33 to 36, and the operations open to callers |
 //!
-//! The caller lends every buffer. A refused call leaves all of them as they were.
+//! The caller lends every buffer. A refused call leaves all of them as they were. An accepted plain derivation
+//! or check ends with zeros in the used matrix (request #104); only the recorded derivation keeps its end matrix.
 //!
 //! ```
 //! use lyra2_reference::{check, derive, Inputs, Refusal};
@@ -21,6 +22,7 @@
 //! let mut key = [0; 32];
 //! let mut matrix = vec![0; 12 * 8 * 4];
 //! derive(&inputs, &mut key, &mut matrix)?;
+//! assert!(matrix.iter().all(|&word| word == 0));
 //! assert!(check(&inputs, &key, &mut matrix)?.matches);
 //! # Ok::<(), Refusal>(())
 //! ```

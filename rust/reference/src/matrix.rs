@@ -73,6 +73,11 @@ impl<'a> Matrix<'a> {
         self.write(row, col, &changed);
     }
 
+    /// Puts zero into every word of every cell.
+    pub fn wipe(&mut self) {
+        self.words.fill(0);
+    }
+
     fn place(&self, row: Row, col: Column) -> Range<usize> {
         let start = CELL_WORDS * (row.0 * self.columns + col.0);
         start..start + CELL_WORDS

@@ -59,8 +59,9 @@ fn words_past_the_used_parts_stay() {
             let used_record = end.record.len() - spare;
             assert!(end.matrix[used_matrix..].iter().all(|&w| w == 0xabcd));
             assert!(end.record[used_record..].iter().all(|&w| w == 0xabcd));
-            // Every word before them is written; none is likely to come out as the fill.
-            assert!(end.matrix[..used_matrix].iter().all(|&w| w != 0xabcd));
+            // Every word before them is written; none is likely to come out as the fill, or as zero.
+            let used = &end.matrix[..used_matrix];
+            assert!(used.iter().all(|&w| w != 0xabcd && w != 0));
             assert!(end.record[..used_record].iter().all(|&w| w != 0xabcd));
         }
     }
@@ -78,24 +79,87 @@ fn earlier_contents_of_the_buffers_do_not_matter() {
     }
 }
 
+/// Words for a lent matrix, none of them zero and no two the same.
+fn words_before(count: usize) -> Vec<u64> {
+    (1..=count as u64).map(|place| !place).collect()
+}
+
+/// Holds a matrix to zeros in its used part and to what it held before in the rest.
+fn assert_wiped(inputs: &Inputs, matrix: &[u64], before: &[u64]) {
+    let used = inputs.parameters(0).matrix_words() as usize;
+    let left = matrix[..used].iter().position(|&word| word != 0);
+    assert_eq!(left, None, "the place of a word that is left: {inputs:?}");
+    assert_eq!(matrix[used..], before[used..], "{inputs:?}");
+}
+
 #[test]
 fn plain_derivation_check_and_cost_agree_with_the_recorded_derivation() {
     for shape in SHAPES {
         let inputs = inputs(shape);
         let end = end(&inputs, 97, 5, 7);
         let mut key = [0; 97];
-        let mut matrix = vec![7; end.matrix.len()];
+        let before = words_before(end.matrix.len());
+        let mut matrix = before.clone();
         let counts = derive(&inputs, &mut key, &mut matrix).unwrap();
         assert_eq!(counts, end.answer.counts);
         assert_eq!(key.as_slice(), end.key);
-        assert_eq!(matrix, end.matrix);
+        assert_wiped(&inputs, &matrix, &before);
 
-        matrix.fill(7);
+        matrix.copy_from_slice(&before);
         let checked = check(&inputs, &key, &mut matrix).unwrap();
         assert!(checked.matches);
         assert_eq!(checked.counts, counts);
-        assert_eq!(matrix, end.matrix);
+        assert_wiped(&inputs, &matrix, &before);
         assert_eq!(cost(&inputs.parameters(97)), Ok(counts));
+    }
+}
+
+#[test]
+fn matrices_that_fit_exactly_or_have_words_to_spare_are_wiped() {
+    for shape in SHAPES.into_iter().chain([(0, 3, 256), (1, 3, 256)]) {
+        let inputs = inputs(shape);
+        let used = inputs.parameters(0).matrix_words() as usize;
+        for (spare, key_len) in [(0, 1), (0, 96), (1, 97), (11, 32), (12, 1024), (1000, 32)] {
+            let before = words_before(used + spare);
+            let mut matrix = before.clone();
+            let mut key = vec![0; key_len];
+            derive(&inputs, &mut key, &mut matrix).unwrap();
+            assert_wiped(&inputs, &matrix, &before);
+            for matches in [true, false] {
+                key[key_len - 1] ^= u8::from(!matches);
+                matrix.copy_from_slice(&before);
+                let checked = check(&inputs, &key, &mut matrix).unwrap();
+                assert_eq!(checked.matches, matches);
+                assert_wiped(&inputs, &matrix, &before);
+            }
+        }
+    }
+}
+
+/// One buffer for both derivations in turn, and a smaller matrix over the end matrix of a larger one.
+#[test]
+fn plain_derivation_over_the_end_matrix_of_a_recorded_one() {
+    for shape in SHAPES {
+        let inputs = inputs(shape);
+        let kept = end(&inputs, 32, 3, 7);
+        let (mut key, mut matrix) = ([0; 32], kept.matrix.clone());
+        derive(&inputs, &mut key, &mut matrix).unwrap();
+        assert_eq!(key.as_slice(), kept.key);
+        assert_wiped(&inputs, &matrix, &kept.matrix);
+
+        let mut record = vec![7; kept.record.len()];
+        let answer = derive_recorded(&inputs, &mut key, &mut matrix, &mut record);
+        assert_eq!(answer, Ok(kept.answer));
+        assert_eq!(key.as_slice(), kept.key);
+        assert_eq!(matrix, kept.matrix);
+
+        let smaller = Inputs {
+            r: 3,
+            c: 1,
+            ..inputs
+        };
+        derive(&smaller, &mut key, &mut matrix).unwrap();
+        assert_wiped(&smaller, &matrix, &kept.matrix);
     }
 }
 
@@ -103,14 +167,15 @@ fn plain_derivation_check_and_cost_agree_with_the_recorded_derivation() {
 fn check_says_no_to_every_key_that_differs_in_a_bit() {
     let inputs = inputs((1, 3, 2));
     let end = end(&inputs, 40, 0, 0);
+    let before = words_before(end.matrix.len());
     for bit in 0..8 * end.key.len() {
         let mut stored = end.key.clone();
         stored[bit / 8] ^= 1 << (bit % 8);
-        let mut matrix = vec![0; end.matrix.len()];
+        let mut matrix = before.clone();
         let checked = check(&inputs, &stored, &mut matrix).unwrap();
         assert!(!checked.matches, "bit {bit}");
         assert_eq!(checked.counts, end.answer.counts);
-        assert_eq!(matrix, end.matrix);
+        assert_wiped(&inputs, &matrix, &before);
     }
 }
 

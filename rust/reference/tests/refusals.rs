@@ -219,6 +219,55 @@ fn the_first_of_any_set_of_conditions_is_returned() {
     }
 }
 
+/// What makes a call into one that is refused.
+type Change = fn(&mut Call);
+
+/// The calls that a check of the plain derivation refuses, one condition each.
+const OUTSIDE: [(Refusal, Change); 11] = [
+    (Refusal::KeyLength, |call| call.key_len = 0),
+    (Refusal::KeyLength, |call| call.key_len = 1025),
+    (Refusal::PasswordLength, |call| call.password_len = 1025),
+    (Refusal::SaltTooShort, |call| call.salt_len = 7),
+    (Refusal::SaltTooLong, |call| call.salt_len = 65),
+    (Refusal::TimeCost, |call| call.t = 256),
+    (Refusal::Rows, |call| call.r = 2),
+    (Refusal::Rows, |call| call.r = 16_385),
+    (Refusal::Columns, |call| call.c = 0),
+    (Refusal::Columns, |call| call.c = 257),
+    (Refusal::MatrixWords, |call| call.matrix_words = 35),
+];
+
+/// Such calls have room for all the words that an accepted one would wipe, 7 excepted.
+#[test]
+fn refused_calls_keep_a_matrix_that_would_have_fitted() {
+    let listed = |check: &Refusal| OUTSIDE.iter().any(|(other, _)| other == check);
+    assert!(PLAIN_CHECKS.iter().all(listed));
+    for (refusal, change) in OUTSIDE {
+        let mut call = Call {
+            matrix_words: 12 * 16_385,
+            ..ACCEPTED
+        };
+        change(&mut call);
+        let inputs = Inputs {
+            password: &vec![1; call.password_len],
+            salt: &vec![2; call.salt_len],
+            t: call.t,
+            r: call.r,
+            c: call.c,
+        };
+        let before: Vec<u64> = (1..=call.matrix_words as u64).map(|word| !word).collect();
+        let mut matrix = before.clone();
+        let (mut key, mut record) = (vec![3; call.key_len], [5; 12]);
+        let answers = [
+            number(derive(&inputs, &mut key, &mut matrix)),
+            number(check(&inputs, &key, &mut matrix)),
+            number(derive_recorded(&inputs, &mut key, &mut matrix, &mut record)),
+        ];
+        assert_eq!(answers, [refusal.number(); 3], "{call:?}");
+        assert!(matrix == before, "{call:?}");
+    }
+}
+
 #[test]
 fn cost_of_lengths_that_no_buffer_has() {
     let largest = Parameters {

@@ -20,7 +20,7 @@ const DERIVED: &str = "case=1 op=derive key_len=32 \
     password=c082a4fdfff10ac23f242265b58e7cee418014e1bb656d29 \
     salt=970d19add285c93d3e6acf7f93f5e9cc T=1 R=3 C=1 matrix_words=36 refusal=0 \
     key=01ff1f6b8a2f3c033f24023a1d9f6f9677f2a0b272bfdc823d4d637acfbaddab \
-    full=3 reduced=6 rounds=42 matrix_sum=0f3c14690553fc4a";
+    full=3 reduced=6 rounds=42 matrix_sum=66e368127e9e89a5";
 
 /// The problem that reading a line gives, which must be laid to that line.
 fn problem(line: &str) -> String {
@@ -248,18 +248,26 @@ fn program_says_where_a_file_is_bad() {
         expected
     );
     let sum = complaint_about("sum.txt", &format!("{CHECK}\n"));
-    assert!(sum.starts_with("1: case 1: field matrix_sum: 0000000000000000 is due, "));
+    let expected =
+        "1: case 1: field matrix_sum: 0000000000000000 is due, 66e368127e9e89a5 was found";
+    assert_eq!(sum, expected);
+    // The sum that the line had before request #104, that of the end matrix.
+    let kept = DERIVED.replace("66e368127e9e89a5", "0f3c14690553fc4a");
+    let expected =
+        "1: case 1: field matrix_sum: 0f3c14690553fc4a is due, 66e368127e9e89a5 was found";
+    assert_eq!(complaint_about("kept.txt", &format!("{kept}\n")), expected);
 }
 
 #[test]
 fn program_says_that_a_file_holds() {
     let file = place("good.txt");
-    std::fs::write(&file, format!("{WALK}\n")).unwrap();
+    let derived = DERIVED.replace("case=1", "case=2");
+    std::fs::write(&file, format!("{WALK}\n{derived}\n")).unwrap();
     let output = vectors(&["check", file.to_str().unwrap()]);
     assert!(output.status.success());
     let text = String::from_utf8(output.stdout).unwrap();
     assert!(
-        text.ends_with(": all hold (cases: 1, refusals: 0)\n"),
+        text.ends_with(": all hold (cases: 2, refusals: 0)\n"),
         "{text}"
     );
 }

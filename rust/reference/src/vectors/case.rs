@@ -146,7 +146,7 @@ pub enum Answer {
         key: Vec<u8>,
         /// The three counts.
         counts: Counts,
-        /// Checksum of the used matrix.
+        /// Checksum of the used matrix, which the call has to leave as zeros.
         matrix_sum: u64,
     },
     /// Of the check.
@@ -155,7 +155,7 @@ pub enum Answer {
         matches: bool,
         /// The three counts.
         counts: Counts,
-        /// Checksum of the used matrix.
+        /// Checksum of the used matrix, which the call has to leave as zeros.
         matrix_sum: u64,
     },
     /// Of the cost question.

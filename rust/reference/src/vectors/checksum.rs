@@ -11,3 +11,8 @@ pub fn of_bytes(bytes: impl IntoIterator<Item = u8>) -> u64 {
 pub fn of_words(words: &[u64]) -> u64 {
     of_bytes(words.iter().flat_map(|word| word.to_le_bytes()))
 }
+
+/// The checksum of this many zero words, none of which has to be held.
+pub fn of_zero_words(count: u64) -> u64 {
+    of_bytes((0..8 * count).map(|_| 0))
+}

@@ -190,27 +190,25 @@ pub fn agree(subject: &impl Subject, question: &Question, answer: &Answer) -> Re
         return Ok(false);
     };
     match answer {
-        Answer::Recorded {
-            key,
-            counts,
-            matrix_sum,
-            ..
-        } => agree_on_key(subject, given, key, *counts, *matrix_sum).map(|()| true),
+        Answer::Recorded { key, counts, .. } => {
+            agree_on_key(subject, given, key, *counts).map(|()| true)
+        }
         Answer::Refused(refusal) => agree_on_refusal(subject, given, *key_len, *refusal),
         _ => Err("a recorded derivation gave another operation's answer".to_string()),
     }
 }
 
+/// The key and the counts are shared; of the end matrix the others leave nothing.
 fn agree_on_key(
     subject: &impl Subject,
     given: &Given,
     key: &[u8],
     counts: Counts,
-    matrix_sum: u64,
 ) -> Result<(), String> {
     let key_len = key.len() as u64;
     let cost = Question::Cost(given.parameters(key_len));
     expect(subject, &cost, &Answer::Cost(counts))?;
+    let matrix_sum = checksum::of_zero_words(given.parameters(key_len).matrix_words());
     let derived = Answer::Derived {
         key: key.to_vec(),
         counts,
@@ -219,7 +217,7 @@ fn agree_on_key(
     expect(subject, &derive_question(given, key_len), &derived)?;
     let mut wrong_key = key.to_vec();
     // The place of the wrong byte differs from case to case.
-    let place = matrix_sum % key_len.max(1);
+    let place = checksum::of_bytes(key.iter().copied()) % key_len.max(1);
     if let Some(byte) = wrong_key.get_mut(place as usize) {
         *byte ^= 0x10;
     }

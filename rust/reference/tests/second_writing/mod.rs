@@ -176,7 +176,7 @@ pub struct Inputs {
     pub c: usize,
 }
 
-/// What a derivation ends with.
+/// What a recorded derivation ends with. The plain one has the same key, and leaves nothing of the matrix.
 pub struct End {
     pub key: Vec<u8>,
     pub state: State,
@@ -232,7 +232,7 @@ fn visited(inputs: &Inputs, misreading: Misreading) -> Derivation {
     derivation
 }
 
-/// The end of a derivation by this reading of document 01.
+/// The end of a recorded derivation by this reading of document 01.
 pub fn derive(inputs: &Inputs, misreading: Misreading) -> End {
     let mut derivation = visited(inputs, misreading);
     let state = derivation.state;
