@@ -3,7 +3,7 @@
 mod common;
 
 use lyra2_reference::vectors::{
-    chosen_text, run, write, Answer, Case, Coverage, Question, Reference,
+    checksum, chosen_text, run, write, Answer, Case, Coverage, Given, Question, Reference,
 };
 use lyra2_reference::{Parameters, Refusal};
 use std::collections::{BTreeMap, BTreeSet};
@@ -241,5 +241,126 @@ fn every_check_is_answered_where_a_later_one_holds_too() {
                 assert!(cases.iter().any(shows), "{op}: {first:?}, {later:?}");
             }
         }
+    }
+}
+
+/// The first case that request #104 added.
+const FIRST_WIPED: u64 = 3011;
+
+/// What an accepted plain derivation or check is given and its key length, with the sum of what it leaves.
+fn wiped(case: &Case) -> Option<(&Given, u64, u64)> {
+    match (&case.question, &case.answer) {
+        (Question::Derive { given, key_len }, Answer::Derived { matrix_sum, .. }) => {
+            Some((given, *key_len, *matrix_sum))
+        }
+        (Question::Check { given, stored }, Answer::Checked { matrix_sum, .. }) => {
+            Some((given, stored.count(), *matrix_sum))
+        }
+        _ => None,
+    }
+}
+
+#[test]
+fn zeros_are_left_by_plain_derivations_and_checks_alone() {
+    for (_, case) in common::cases() {
+        let zeros = |given: &Given| checksum::of_zero_words(12 * given.r * given.c);
+        if let Some((given, _, sum)) = wiped(&case) {
+            assert_eq!(sum, zeros(given), "case {}", case.number);
+        }
+        if let (Question::DeriveRecorded { given, .. }, Answer::Recorded { matrix_sum, .. }) =
+            (&case.question, &case.answer)
+        {
+            assert_ne!(*matrix_sum, zeros(given), "case {}", case.number);
+        }
+    }
+}
+
+/// A reader who compares such lines sees one key, and a matrix that only the first of them keeps.
+#[test]
+fn recorded_derivations_of_request_104_are_asked_again_as_plain_ones_and_checks() {
+    let cases: Vec<Case> = common::cases().into_iter().map(|(_, case)| case).collect();
+    let mut recorded = 0;
+    for lines in cases.windows(4) {
+        let (Question::DeriveRecorded { given, key_len, .. }, Answer::Recorded { key, .. }) =
+            (&lines[0].question, &lines[0].answer)
+        else {
+            continue;
+        };
+        if lines[0].number < FIRST_WIPED {
+            continue;
+        }
+        for case in &lines[1..] {
+            let (same, len, _) = wiped(case).expect("a plain derivation or a check follows");
+            assert_eq!((same, len), (given, *key_len), "case {}", case.number);
+        }
+        let derived =
+            matches!(&lines[1].answer, Answer::Derived { key: other, .. } if other == key);
+        assert!(derived, "case {}", lines[1].number);
+        let answers = lines[2..].iter().map(|case| match case.answer {
+            Answer::Checked { matches, .. } => Some(matches),
+            _ => None,
+        });
+        let answers: Vec<_> = answers.collect();
+        assert_eq!(answers, [Some(true), Some(false)]);
+        recorded += 1;
+    }
+    assert!(recorded >= 25, "{recorded}");
+}
+
+/// T, R, C, the key length and the words past the used ones, of the accepted cases of an operation.
+fn wiped_sizes(op: &str) -> Vec<[u64; 5]> {
+    let cases = common::cases().into_iter().map(|(_, case)| case);
+    let own: Vec<Case> = cases
+        .filter(|case| write::op(&case.question) == op)
+        .collect();
+    let sizes = |(given, key_len, _): (&Given, u64, u64)| {
+        let spare = given.matrix_words - 12 * given.r * given.c;
+        [given.t, given.r, given.c, key_len, spare]
+    };
+    own.iter()
+        .filter_map(|case| wiped(case).map(sizes))
+        .collect()
+}
+
+#[test]
+fn wiped_matrices_cover_the_limits() {
+    for op in ["derive", "check"] {
+        let sizes = wiped_sizes(op);
+        for t in [0, 1] {
+            for c in [1, 256] {
+                for spare in [0, 1] {
+                    let has = |size: &[u64; 5]| size[..3] == [t, 3, c] && size[4] == spare;
+                    assert!(
+                        sizes.iter().any(has),
+                        "{op}: T {t}, C {c}, {spare} to spare"
+                    );
+                }
+            }
+            for key_len in [1, 96, 97, 1024] {
+                let has = |size: &[u64; 5]| size[0] == t && size[3] == key_len;
+                assert!(sizes.iter().any(has), "{op}: T {t}, key of {key_len}");
+            }
+            let has_many = |size: &[u64; 5]| size[0] == t && size[4] >= 100;
+            assert!(sizes.iter().any(has_many), "{op}: T {t}, many to spare");
+        }
+    }
+}
+
+/// Only 7 has no matrix that would have fitted.
+#[test]
+fn every_other_refusal_is_asked_for_with_a_matrix_that_would_have_fitted() {
+    let mut found: BTreeMap<&str, BTreeSet<u8>> = BTreeMap::new();
+    for case in cases_by_operation().into_values().flatten() {
+        if let (Some((given, words, _)), Answer::Refused(refusal)) =
+            (numbers_and_words(&case.question), &case.answer)
+        {
+            if words > given.matrix_words() {
+                let own = found.entry(write::op(&case.question)).or_default();
+                own.insert(refusal.number());
+            }
+        }
+    }
+    for op in ["derive", "check"] {
+        assert_eq!(found[op], [1, 2, 3, 4, 5, 6, 10].into(), "{op}");
     }
 }

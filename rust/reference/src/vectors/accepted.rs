@@ -521,3 +521,70 @@ pub fn with_limit_salts() -> Vec<Question> {
     ]
     .concat()
 }
+
+/// Matrices that are wiped: each shape as a recorded derivation, which keeps its end matrix, then with the same
+/// inputs and as many lent words as a plain derivation, as a check of the key and as a check of another key.
+pub fn wiped() -> Vec<Question> {
+    let mut random = Random::new(28);
+    let mut questions = Vec::new();
+    for (shape, spare_words) in wiped_shapes(&mut random) {
+        let mut given = shape.given(&mut random);
+        given.matrix_words += spare_words;
+        let key = derived_key(&given, shape.key_len);
+        let mut other = key.clone();
+        other[random.between(0, shape.key_len - 1) as usize] ^= 1 << random.between(0, 7);
+        questions.push(shape.recorded_of(given.clone()));
+        questions.push(Question::Derive {
+            given: given.clone(),
+            key_len: shape.key_len,
+        });
+        for stored in [key, other] {
+            questions.push(Question::Check {
+                given: given.clone(),
+                stored: Bytes::Listed(stored),
+            });
+        }
+    }
+    questions
+}
+
+/// Shapes with the words that are lent past the used matrix: the limits of the key, of R and of C, with visits and
+/// without, in matrices that fit exactly, with a word more and with many more; then random ones.
+fn wiped_shapes(random: &mut Random) -> Vec<(Shape, u64)> {
+    let smallest = Shape { r: 3, c: 1, ..BASE };
+    let mut shapes = Vec::new();
+    for t in [0, 1] {
+        let smallest = Shape { t, ..smallest };
+        for key_len in [1, 96, 97, 1024] {
+            shapes.push((
+                Shape {
+                    key_len,
+                    ..smallest
+                },
+                0,
+            ));
+        }
+        for spare_words in [1, 12, 500] {
+            shapes.push((smallest, spare_words));
+        }
+        for spare_words in [0, 1] {
+            let widest = Shape { c: 256, ..smallest };
+            shapes.push((widest, spare_words));
+        }
+    }
+    for spare_words in [1, 12, 500] {
+        shapes.push((Shape { r: 5, c: 3, ..BASE }, spare_words));
+    }
+    for _ in 0..6 {
+        let shape = Shape {
+            password_len: random.between(0, 150),
+            salt_len: random.between(8, 64),
+            key_len: random.between(1, 200),
+            t: random.between(0, 3),
+            r: random.between(3, 20),
+            c: random.between(1, 8),
+        };
+        shapes.push((shape, random.between(0, 40)));
+    }
+    shapes
+}

@@ -31,6 +31,8 @@ pub fn chosen_questions() -> Vec<Question> {
         refused::of_time_costs(),
         accepted::with_limit_salts(),
         refused::of_salts(),
+        accepted::wiped(),
+        refused::with_room_to_wipe(),
     ]
     .concat()
 }

@@ -53,6 +53,20 @@ impl Sizes {
         }
     }
 
+    fn plain(&self) -> Question {
+        Question::Derive {
+            given: self.given(),
+            key_len: self.key_len,
+        }
+    }
+
+    fn check(&self) -> Question {
+        Question::Check {
+            given: self.given(),
+            stored: Bytes::Zeros(self.key_len),
+        }
+    }
+
     fn parameters(&self) -> Parameters {
         self.given().parameters(self.key_len)
     }
@@ -71,14 +85,8 @@ impl Sizes {
     fn questions(&self) -> Vec<Question> {
         vec![
             self.recorded(),
-            Question::Derive {
-                given: self.given(),
-                key_len: self.key_len,
-            },
-            Question::Check {
-                given: self.given(),
-                stored: Bytes::Zeros(self.key_len),
-            },
+            self.plain(),
+            self.check(),
             Question::Cost(self.parameters()),
         ]
     }
@@ -444,6 +452,42 @@ fn random_salts() -> Vec<Question> {
         questions.extend(sizes.questions());
     }
     questions
+}
+
+/// Plain derivations and checks that are refused although the matrix would do, which must not be wiped then; only
+/// with 7 it lacks a word.
+pub fn with_room_to_wipe() -> Vec<Question> {
+    let base = Sizes {
+        key_len: 24,
+        password_len: 16,
+        r: 4,
+        c: 2,
+        ..FITTING
+    };
+    let outside: [fn(&mut Sizes); 9] = [
+        |sizes| sizes.key_len = 0,
+        |sizes| sizes.key_len = 1025,
+        |sizes| sizes.password_len = 1025,
+        |sizes| sizes.salt_len = 7,
+        |sizes| sizes.salt_len = 65,
+        |sizes| sizes.t = 256,
+        |sizes| sizes.r = 2,
+        |sizes| sizes.c = 0,
+        |sizes| sizes.c = 257,
+    ];
+    let mut calls = Vec::new();
+    for change in outside {
+        let mut sizes = base;
+        change(&mut sizes);
+        // A cell more than is used, so that there is a word even where C is 0.
+        sizes.matrix_words = sizes.parameters().matrix_words() + 12;
+        calls.push(sizes);
+    }
+    let mut one_short = base.fitting();
+    one_short.matrix_words -= 1;
+    calls.push(one_short);
+    let plain_and_check = |sizes: &Sizes| [sizes.plain(), sizes.check()];
+    calls.iter().flat_map(plain_and_check).collect()
 }
 
 /// The questions without those that stand earlier: a long password has no other side, and two sets of
