@@ -2,7 +2,7 @@
 
 mod common;
 
-use lyra2_reference::refusal::{check_matrix, check_parameters, check_record};
+use lyra2_reference::refusal::{check_matrix, check_parameters, check_record, PLAIN_CHECKS};
 use lyra2_reference::vectors::{run, write, Answer, Case, Coverage, Question, Reference, Subject};
 use lyra2_reference::{Checked, Counts, Inputs, Parameters, Recorded, Refusal};
 
@@ -402,6 +402,225 @@ fn wrong_rules_of_refusal_are_noticed_in_every_operation() {
                 // From the end, where the cases of the salts stand; they are found sooner.
                 let found = cases.iter().rev().any(noticed);
                 assert!(found, "{}: {op}, {asked}", rule.name);
+            }
+        }
+    }
+}
+
+/// A wrong rule for the end of an accepted call. It is given the lent matrix with the end matrix in it, how many
+/// words are used, and how many a row has.
+struct WrongEnd {
+    name: &'static str,
+    end: fn(&mut [u64], usize, usize),
+}
+
+const WRONG_ENDS: [WrongEnd; 8] = [
+    WrongEnd {
+        name: "nothing is wiped",
+        end: |_, _, _| (),
+    },
+    WrongEnd {
+        name: "the first used word is left",
+        end: |lent, used, _| lent[1..used].fill(0),
+    },
+    WrongEnd {
+        name: "the last used word is left",
+        end: |lent, used, _| lent[..used - 1].fill(0),
+    },
+    WrongEnd {
+        name: "the last row is left",
+        end: |lent, used, row| lent[..used - row].fill(0),
+    },
+    WrongEnd {
+        name: "as many bytes as there are used words are wiped",
+        end: |lent, used, _| lent[..used / 8].fill(0),
+    },
+    WrongEnd {
+        name: "the used words are all ones",
+        end: |lent, used, _| lent[..used].fill(u64::MAX),
+    },
+    WrongEnd {
+        name: "the word after the used ones is wiped too",
+        end: |lent, used, _| lent.iter_mut().take(used + 1).for_each(|word| *word = 0),
+    },
+    WrongEnd {
+        name: "all lent words are wiped",
+        end: |lent, _, _| lent.fill(0),
+    },
+];
+
+/// The reference program with a wrong end in one of its operations.
+struct WrongWiping {
+    end: fn(&mut [u64], usize, usize),
+    op: &'static str,
+}
+
+impl WrongWiping {
+    /// Ends an accepted call wrongly, if it is of the operation; the end matrix is had from the recorded derivation.
+    fn spoil(&self, op: &str, inputs: &Inputs, key_len: usize, matrix: &mut [u64]) {
+        if op != self.op {
+            return;
+        }
+        let given = inputs.parameters(key_len);
+        let mut record = vec![0; given.record_words() as usize];
+        let mut key = vec![0; key_len];
+        let answer = Reference.derive_recorded(inputs, &mut key, matrix, &mut record);
+        answer.expect("it has the operation").expect("it accepts");
+        let used = given.matrix_words() as usize;
+        (self.end)(matrix, used, used / inputs.r as usize);
+    }
+}
+
+impl Subject for WrongWiping {
+    fn derive_recorded(
+        &self,
+        inputs: &Inputs,
+        key: &mut [u8],
+        matrix: &mut [u64],
+        record: &mut [u64],
+    ) -> Option<Result<Recorded, Refusal>> {
+        let answer = Reference.derive_recorded(inputs, key, matrix, record)?;
+        if answer.is_ok() {
+            self.spoil("derive_recorded", inputs, key.len(), matrix);
+        }
+        Some(answer)
+    }
+
+    fn derive(
+        &self,
+        inputs: &Inputs,
+        key: &mut [u8],
+        matrix: &mut [u64],
+    ) -> Result<Counts, Refusal> {
+        let counts = Reference.derive(inputs, key, matrix)?;
+        self.spoil("derive", inputs, key.len(), matrix);
+        Ok(counts)
+    }
+
+    fn check(
+        &self,
+        inputs: &Inputs,
+        stored: &[u8],
+        matrix: &mut [u64],
+    ) -> Result<Checked, Refusal> {
+        let checked = Reference.check(inputs, stored, matrix)?;
+        self.spoil("check", inputs, stored.len(), matrix);
+        Ok(checked)
+    }
+
+    fn cost(&self, given: &Parameters) -> Result<Counts, Refusal> {
+        Reference.cost(given)
+    }
+
+    fn walk(&self, r: u64, row0: u64) -> Result<u64, Refusal> {
+        Reference.walk(r, row0)
+    }
+}
+
+/// By the operation's own cases, and by those of the recorded derivation, which ask the other operations too.
+#[test]
+fn matrices_wiped_wrongly_are_noticed() {
+    let cases = small_cases();
+    for WrongEnd { name, end } in WRONG_ENDS {
+        for op in ["derive", "check"] {
+            for asked in [op, "derive_recorded"] {
+                let noticed = |case: &Case| {
+                    write::op(&case.question) == asked
+                        && run::check_case(&WrongWiping { end, op }, case).is_err()
+                };
+                // From the end, where the cases with words to spare stand; they are found sooner.
+                assert!(cases.iter().rev().any(noticed), "{name}: {op}, {asked}");
+            }
+        }
+    }
+}
+
+/// The right end of a plain derivation and of a check, and a wrong one of a recorded derivation.
+fn wiped(op: &'static str) -> WrongWiping {
+    let end = |lent: &mut [u64], used: usize, _: usize| lent[..used].fill(0);
+    WrongWiping { end, op }
+}
+
+/// Shows that above nothing but the wrong end is noticed.
+#[test]
+fn matrices_wiped_rightly_are_not_noticed() {
+    for case in small_cases() {
+        for op in ["derive", "check"] {
+            let outcome = run::check_case(&wiped(op), &case);
+            assert!(outcome.is_ok(), "case {}: {outcome:?}", case.number);
+        }
+    }
+}
+
+#[test]
+fn an_end_matrix_that_is_wiped_is_noticed() {
+    let mut cases = small_cases();
+    cases.retain(|case| matches!(case.answer, Answer::Recorded { .. }));
+    assert!(!cases.is_empty());
+    for case in cases {
+        let outcome = run::check_case(&wiped("derive_recorded"), &case);
+        assert!(outcome.is_err(), "case {}", case.number);
+    }
+}
+
+/// The reference program that wipes the matrix of one operation where it refuses with one number.
+struct WipesRefused {
+    refusal: Refusal,
+    op: &'static str,
+}
+
+impl WipesRefused {
+    fn spoil<A>(&self, op: &str, answer: &Result<A, Refusal>, matrix: &mut [u64]) {
+        if op == self.op && answer.as_ref().err() == Some(&self.refusal) {
+            matrix.fill(0);
+        }
+    }
+}
+
+impl Subject for WipesRefused {
+    fn derive(
+        &self,
+        inputs: &Inputs,
+        key: &mut [u8],
+        matrix: &mut [u64],
+    ) -> Result<Counts, Refusal> {
+        let answer = Reference.derive(inputs, key, matrix);
+        self.spoil("derive", &answer, matrix);
+        answer
+    }
+
+    fn check(
+        &self,
+        inputs: &Inputs,
+        stored: &[u8],
+        matrix: &mut [u64],
+    ) -> Result<Checked, Refusal> {
+        let answer = Reference.check(inputs, stored, matrix);
+        self.spoil("check", &answer, matrix);
+        answer
+    }
+
+    fn cost(&self, given: &Parameters) -> Result<Counts, Refusal> {
+        Reference.cost(given)
+    }
+
+    fn walk(&self, r: u64, row0: u64) -> Result<u64, Refusal> {
+        Reference.walk(r, row0)
+    }
+}
+
+#[test]
+fn a_refused_call_that_wipes_is_noticed_by_its_number() {
+    let cases = small_cases();
+    for &refusal in PLAIN_CHECKS {
+        for op in ["derive", "check"] {
+            for asked in [op, "derive_recorded"] {
+                let noticed = |case: &Case| {
+                    write::op(&case.question) == asked
+                        && run::check_case(&WipesRefused { refusal, op }, case).is_err()
+                };
+                let found = cases.iter().rev().any(noticed);
+                assert!(found, "{refusal:?}: {op}, {asked}");
             }
         }
     }

@@ -6,10 +6,22 @@
 mod common;
 mod second_writing;
 
-use lyra2_reference::vectors::{checksum, Answer, Question};
+use lyra2_reference::vectors::{checksum, Answer, Given, Question};
 use second_writing::{derive, Inputs, Misreading, Misreading::*};
 
-/// The accepted derivations of the vectors file with their answers, but for the largest.
+/// Inputs of the second writing.
+fn inputs(given: &Given, key_len: u64) -> Inputs {
+    Inputs {
+        key_len: key_len as usize,
+        password: given.password.to_vec(),
+        salt: given.salt.to_vec(),
+        t: given.t as usize,
+        r: given.r as usize,
+        c: given.c as usize,
+    }
+}
+
+/// The accepted recorded derivations of the vectors file with their answers, but for the largest.
 fn derivations_of_the_file() -> Vec<(u64, Inputs, Answer)> {
     let mut derivations = Vec::new();
     for (_, case) in common::cases() {
@@ -18,14 +30,7 @@ fn derivations_of_the_file() -> Vec<(u64, Inputs, Answer)> {
         else {
             continue;
         };
-        let inputs = Inputs {
-            key_len: key_len as usize,
-            password: given.password.to_vec(),
-            salt: given.salt.to_vec(),
-            t: given.t as usize,
-            r: given.r as usize,
-            c: given.c as usize,
-        };
+        let inputs = inputs(&given, key_len);
         if inputs.r * inputs.c * inputs.t <= 100_000 {
             derivations.push((case.number, inputs, case.answer));
         }
@@ -104,6 +109,53 @@ fn no_misreading_agrees_with_the_whole_file() {
             assert_eq!(end.record, record, "case {number}");
         }
     }
+}
+
+/// The key of a plain derivation or a check, once the sum of what it leaves is found to be that of zeros.
+fn wiped_key(number: u64, inputs: &Inputs, matrix_sum: u64) -> Vec<u8> {
+    let zeros = vec![0; 12 * inputs.r * inputs.c];
+    assert_eq!(checksum::of_words(&zeros), matrix_sum, "case {number}");
+    key(inputs, Correct)
+}
+
+#[test]
+fn plain_derivations_of_the_file() {
+    let mut count = 0;
+    for (_, case) in common::cases() {
+        if let (
+            Question::Derive { given, key_len },
+            Answer::Derived {
+                key, matrix_sum, ..
+            },
+        ) = (case.question, case.answer)
+        {
+            let found = wiped_key(case.number, &inputs(&given, key_len), matrix_sum);
+            assert_eq!(found, key, "case {}", case.number);
+            count += 1;
+        }
+    }
+    assert!(count >= 60, "{count}");
+}
+
+#[test]
+fn checks_of_the_file() {
+    let mut count = 0;
+    for (_, case) in common::cases() {
+        if let (
+            Question::Check { given, stored },
+            Answer::Checked {
+                matches,
+                matrix_sum,
+                ..
+            },
+        ) = (case.question, case.answer)
+        {
+            let key = wiped_key(case.number, &inputs(&given, stored.count()), matrix_sum);
+            assert_eq!(key == stored.to_vec(), matches, "case {}", case.number);
+            count += 1;
+        }
+    }
+    assert!(count >= 160, "{count}");
 }
 
 #[test]
