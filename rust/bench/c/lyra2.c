@@ -2,7 +2,8 @@
  * The plain derivation in C with intrinsics, to set the proved one beside. It is compiled once for each set of
  * instructions: sse2.h or avx2.h has the registers and the round, and everything else stands here once.
  *
- * The caller answers for what the checks would refuse, and lends a matrix of 12 * R * C words.
+ * The caller answers for what the checks would refuse, and lends a matrix of 12 * R * C words, which end as zeros; the
+ * proved derivation pays for that too.
  */
 #include <stddef.h>
 #include <stdint.h>
@@ -257,4 +258,5 @@ void DERIVE(const Derivation *asked)
         s[i] = exclusive_or(s[i], load(last + LANES * i));
     full_call(s);
     squeeze(s, asked->key, asked->key_len);
+    memset(m.words, 0, CELL_BYTES * m.rows * m.columns);
 }

@@ -1,11 +1,14 @@
 //! The turns in which the programs run, and their times.
 //!
-//! In each turn every program derives once, in the same buffers, which are overwritten before; all must leave
-//! the key and the matrix that the second program leaves. From turn to turn the programs change their order.
+//! In each turn every program derives once, in the same buffers, which are overwritten before. From turn to turn the
+//! programs change their order.
+//!
+//! All must leave the key that the second program derives. The recorded derivation must also leave that program's end
+//! matrix, word for word. The others must leave zeros, which tell that the matrix was wiped and nothing of what was in
+//! it, so that the key alone vouches for their walk.
 
 use crate::programs::{Lent, Program};
-use lyra2_reference::vectors::{Reference, Subject};
-use lyra2_reference::Inputs;
+use lyra2_reference::{derive_recorded, Inputs};
 use std::time::Instant;
 
 /// What the key and the matrix hold before a run.
@@ -53,25 +56,34 @@ impl Times {
 /// What a program of Lyra2 has to leave.
 struct Due {
     key: [u8; 32],
-    matrix: Vec<u64>,
+    end_matrix: Vec<u64>,
 }
 
 impl Due {
     fn new(inputs: &Inputs) -> Due {
+        let given = inputs.parameters(32);
         let mut key = [0; 32];
-        let mut matrix = vec![0; inputs.parameters(32).matrix_words() as usize];
-        let answer = Reference.derive(inputs, &mut key, &mut matrix);
+        let mut end_matrix = vec![0; given.matrix_words() as usize];
+        let mut record = vec![0; given.record_words() as usize];
+        let answer = derive_recorded(inputs, &mut key, &mut end_matrix, &mut record);
         answer.expect("no check refuses");
-        Due { key, matrix }
+        Due { key, end_matrix }
     }
 
     /// Ends the benchmark if a program left something else.
     fn assert_left(&self, program: &Program, lent: &mut Lent) {
-        assert_ne!(lent.key, [BEFORE; 32], "{} left no key", program.name);
-        if program.lyra2 {
-            assert_eq!(lent.key, self.key, "the key of {}", program.name);
-            let same = lent.matrix() == self.matrix;
-            assert!(same, "the end matrix of {} is another", program.name);
+        let name = program.name;
+        assert_ne!(lent.key, [BEFORE; 32], "{name} left no key");
+        if !program.lyra2 {
+            return;
+        }
+        assert_eq!(lent.key, self.key, "the key of {name}");
+        let matrix = lent.matrix();
+        if program.keeps_matrix {
+            assert!(matrix == self.end_matrix, "the end matrix of {name}");
+        } else {
+            let wiped = matrix.iter().all(|&word| word == 0);
+            assert!(wiped, "{name} left words in the matrix");
         }
     }
 }

@@ -64,6 +64,8 @@ pub struct Program {
     pub name: &'static str,
     /// Whether it computes Lyra2, and so has to agree with the others.
     pub lyra2: bool,
+    /// Whether it leaves its end matrix, as the recorded derivation does; the others of Lyra2 leave zeros.
+    pub keeps_matrix: bool,
     /// Whether it is drawn in the picture of time against memory.
     pub drawn: bool,
     /// The derivation.
@@ -75,6 +77,7 @@ impl Program {
         Program {
             name,
             lyra2: true,
+            keeps_matrix: false,
             drawn,
             derive: Box::new(derive),
         }
@@ -85,7 +88,10 @@ impl Program {
 pub fn all() -> (Vec<Program>, Vec<&'static str>) {
     let mut programs = vec![
         Program::lyra2("this library, plain", true, proved),
-        Program::lyra2("this library, recorded", false, proved_recorded),
+        Program {
+            keeps_matrix: true,
+            ..Program::lyra2("this library, recorded", false, proved_recorded)
+        },
         Program::lyra2("this library, check", false, proved_check),
         Program::lyra2("second program, Rust", false, second),
         Program::lyra2(RUST_FOR_SPEED, true, for_speed),
@@ -157,6 +163,7 @@ fn argon2id(library: Argon2) -> Program {
     Program {
         name: "Argon2id of libargon2",
         lyra2: false,
+        keeps_matrix: false,
         drawn: true,
         derive: Box::new(derive),
     }

@@ -13,7 +13,8 @@ type Shared = [Word<u64>; 16];
 /// The words of a cell of the matrix.
 type Cell = [Word<u64>; CELL_WORDS];
 
-/// The plain derivation, for inputs and a matrix that no check refuses.
+/// The plain derivation, for inputs and a matrix that no check refuses. The used matrix ends as zeros; the proved
+/// derivation pays for that too.
 pub fn derive(inputs: &Inputs, key: &mut [u8], matrix: &mut [u64]) {
     let mut start = [0; 16];
     start[8..].copy_from_slice(&STARTING_WORDS);
@@ -30,6 +31,7 @@ pub fn derive(inputs: &Inputs, key: &mut [u8], matrix: &mut [u64]) {
     }
     absorb(s, cells[last[0] * columns].iter().map(Word::get));
     squeeze(s, key);
+    matrix[..CELL_WORDS * rows * columns].fill(0);
 }
 
 #[inline(always)]

@@ -1,4 +1,4 @@
-//! The programs that are measured derive the same key and leave the same matrix as the second program.
+//! The programs that are measured derive the same key as the second program and leave in the matrix what they have to.
 
 use bench::measure::measure;
 use bench::programs::{self, Lent, Program};
@@ -22,14 +22,16 @@ fn derivations() -> Vec<(&'static str, Derive)> {
 /// Words lent past the used matrix, which have to be kept.
 const PAST: usize = 5;
 
-/// Compares every program with the second one, and counts the visits that have one row for both.
+/// Compares the key of every program with the second one's, finds the used matrix wiped and the words past it kept,
+/// and counts the visits that have one row for both. A wrong word of the matrix shows in the key only if a later call
+/// reads it, which not every word of a derivation is; the many shapes make up for that.
 fn compare(inputs: &Inputs, key_len: usize) -> usize {
     let given = inputs.parameters(key_len);
     let used = given.matrix_words() as usize;
     let mut due_key = vec![0; key_len];
-    let mut due = vec![7; used + PAST];
     let mut record = vec![0; given.record_words() as usize];
-    derive_recorded(inputs, &mut due_key, &mut due, &mut record).expect("no check refuses");
+    derive_recorded(inputs, &mut due_key, &mut vec![0; used], &mut record)
+        .expect("no check refuses");
     for (name, derive) in derivations() {
         let mut key = vec![0xa5; key_len];
         let mut matrix: Vec<u64> = (0..used as u64).map(|place| !place).collect();
@@ -37,7 +39,9 @@ fn compare(inputs: &Inputs, key_len: usize) -> usize {
         derive(inputs, &mut key, &mut matrix);
         let asked = format!("{name}: {inputs:?}, key of {key_len} bytes");
         assert_eq!(key, due_key, "the key of {asked}");
-        assert!(matrix == due, "the end matrix of {asked}");
+        let (wiped, past) = matrix.split_at(used);
+        assert!(wiped.iter().all(|&word| word == 0), "words left by {asked}");
+        assert_eq!(past, [7; PAST], "words past the matrix of {asked}");
     }
     let visits = record.chunks_exact(2 + 2 * inputs.c as usize);
     visits.filter(|visit| visit[0] == visit[1]).count()
@@ -136,28 +140,42 @@ fn every_measured_program_leaves_what_is_due() {
     assert!(times.iter().all(|times| times.minimum() <= times.median()));
 }
 
-/// A program that derives rightly and then changes something has to end the measurement.
-fn measure_spoilt(spoil: fn(&mut Lent)) {
-    let derive = move |inputs: &Inputs, lent: &mut Lent| {
-        let mut key = [0; 32];
-        speed::derive(inputs, &mut key, lent.matrix());
-        lent.key = key;
-        spoil(lent);
-    };
-    let name = "spoilt";
-    let derive = Box::new(derive);
+/// Measures a program that has to leave its end matrix, or else to wipe it.
+fn measure_one(keeps_matrix: bool, derive: impl Fn(&Inputs, &mut Lent) + 'static) {
     let program = Program {
-        name,
+        name: "spoilt",
         lyra2: true,
+        keeps_matrix,
         drawn: false,
-        derive,
+        derive: Box::new(derive),
     };
     measure(&SMALL, &[&program], 1);
 }
 
+/// A program that derives rightly and then changes something has to end the measurement.
+fn measure_spoilt(spoil: fn(&mut Lent)) {
+    measure_one(false, move |inputs, lent| {
+        let mut key = [0; 32];
+        speed::derive(inputs, &mut key, lent.matrix());
+        lent.key = key;
+        spoil(lent);
+    });
+}
+
+/// The same for a recorded derivation.
+fn measure_spoilt_recorded(spoil: fn(&mut Lent)) {
+    measure_one(true, move |inputs, lent| {
+        let (mut key, mut record) = ([0; 32], lent.record.clone());
+        derive_recorded(inputs, &mut key, lent.matrix(), &mut record).expect("no check refuses");
+        lent.key = key;
+        spoil(lent);
+    });
+}
+
 #[test]
-fn a_right_program_is_measured() {
+fn right_programs_are_measured() {
     measure_spoilt(|_| ());
+    measure_spoilt_recorded(|_| ());
 }
 
 #[test]
@@ -167,7 +185,31 @@ fn a_wrong_key_ends_the_measurement() {
 }
 
 #[test]
-#[should_panic(expected = "the end matrix of spoilt")]
-fn a_wrong_matrix_ends_the_measurement() {
+#[should_panic(expected = "spoilt left words in the matrix")]
+fn a_first_word_left_ends_the_measurement() {
+    measure_spoilt(|lent| lent.matrix()[0] ^= 1);
+}
+
+#[test]
+#[should_panic(expected = "spoilt left words in the matrix")]
+fn a_last_word_left_ends_the_measurement() {
     measure_spoilt(|lent| lent.matrix()[12 * 32 * 4 - 1] ^= 1);
+}
+
+#[test]
+#[should_panic(expected = "the key of spoilt")]
+fn a_wrong_key_of_a_recorded_derivation_ends_the_measurement() {
+    measure_spoilt_recorded(|lent| lent.key[0] ^= 1);
+}
+
+#[test]
+#[should_panic(expected = "the end matrix of spoilt")]
+fn a_wrong_end_matrix_ends_the_measurement() {
+    measure_spoilt_recorded(|lent| lent.matrix()[12 * 32 * 4 - 1] ^= 1);
+}
+
+#[test]
+#[should_panic(expected = "the end matrix of spoilt")]
+fn a_wiped_end_matrix_ends_the_measurement() {
+    measure_spoilt_recorded(|lent| lent.matrix().fill(0));
 }
