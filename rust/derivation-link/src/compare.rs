@@ -32,13 +32,15 @@ struct Lent {
     sizes: Sizes,
 }
 
-/// What the plain and the recorded derivation leave. The key and the used matrix are the plain one's, and
-/// the recorded one is held to the same; the used parts of a refused call are empty.
+/// What the plain and the recorded derivation leave. The key is the plain one's, and the recorded one is held to
+/// the same. Each has a used matrix of its own: the plain one's is wiped, and a check's as well; the recorded one's
+/// is the end matrix. The used parts of a refused call are empty.
 struct End {
     plain: Result<Counts, Refusal>,
     recorded: Result<Recorded, Refusal>,
     key: Vec<u8>,
-    used_matrix: Vec<u64>,
+    wiped_matrix: Vec<u64>,
+    end_matrix: Vec<u64>,
     used_record: Vec<u64>,
 }
 
@@ -135,23 +137,26 @@ fn reference_end(lent: &Lent) -> End {
     let given = lent.sizes.given;
     let zeros = |words: u64| vec![0; words as usize];
     let mut key = vec![0; given.key_len as usize];
-    let mut used_matrix = zeros(lent.sizes.matrix_words);
-    let plain = Reference.derive(&inputs(lent), &mut key, &mut used_matrix);
-    used_matrix.truncate(plain.map_or(0, |_| given.matrix_words() as usize));
+    let mut wiped_matrix = zeros(lent.sizes.matrix_words);
+    let plain = Reference.derive(&inputs(lent), &mut key, &mut wiped_matrix);
+    wiped_matrix.truncate(plain.map_or(0, |_| given.matrix_words() as usize));
 
+    let mut end_matrix = zeros(lent.sizes.matrix_words);
     let mut used_record = zeros(lent.sizes.record_words);
     let recorded = lyra2_reference::derive_recorded(
         &inputs(lent),
         &mut key.clone(),
-        &mut zeros(lent.sizes.matrix_words),
+        &mut end_matrix,
         &mut used_record,
     );
+    end_matrix.truncate(recorded.map_or(0, |_| given.matrix_words() as usize));
     used_record.truncate(recorded.map_or(0, |_| given.record_words() as usize));
     End {
         plain,
         recorded,
         key,
-        used_matrix,
+        wiped_matrix,
+        end_matrix,
         used_record,
     }
 }
@@ -168,7 +173,7 @@ fn compare_plain(
     same("derive: answer", &end.plain, &answer)?;
     let due_key = if end.plain.is_ok() { &end.key } else { &[][..] };
     compare_used("derive: key", due_key, &key)?;
-    compare_used("derive: matrix", &end.used_matrix, &matrix)
+    compare_used("derive: matrix", &end.wiped_matrix, &matrix)
 }
 
 fn compare_recorded(
@@ -189,12 +194,10 @@ fn compare_recorded(
         )
         .ok_or("the program has no recorded derivation")?;
     same("derive_recorded: answer", &end.recorded, &answer)?;
-    let (due_key, due_matrix) = match end.recorded {
-        Ok(_) => (&end.key[..], &end.used_matrix[..]),
-        Err(_) => (&[][..], &[][..]),
-    };
+    let accepted = end.recorded.is_ok();
+    let due_key = if accepted { &end.key } else { &[][..] };
     compare_used("derive_recorded: key", due_key, &key)?;
-    compare_used("derive_recorded: matrix", due_matrix, &matrix)?;
+    compare_used("derive_recorded: matrix", &end.end_matrix, &matrix)?;
     compare_used("derive_recorded: record", &end.used_record, &record)
 }
 
@@ -248,7 +251,7 @@ fn compare_check(
     let due = end.plain.map(|counts| Checked { matches, counts });
     same("check: answer", &due, &answer)?;
     stored.used("check: stored key", 0)?;
-    compare_used("check: matrix", &end.used_matrix, &matrix)
+    compare_used("check: matrix", &end.wiped_matrix, &matrix)
 }
 
 fn same<A: PartialEq + Debug>(name: &str, due: &A, found: &A) -> Result<(), String> {

@@ -8,19 +8,25 @@ use lyra2_reference::{Checked, Counts, Inputs, Parameters, Recorded, Refusal};
 #[derive(Clone, Copy, Debug, PartialEq, Eq)]
 enum Fault {
     LastKeyByte,
+    FirstMatrixWord,
     LastMatrixWord,
     WordPastMatrix,
+    EndMatrixLeft,
     KeyOnRefusal,
     MatrixOnRefusal,
     RoundCount,
     CheckForgetsLastByte,
     CheckSaysNo,
     CheckKeepsMatrix,
+    CheckLeavesEndMatrix,
+    CheckWipesPastMatrix,
+    CheckWipesOnRefusal,
     CostOfOneBlock,
     EverythingRefused,
     RefusalNumber,
     RecordedLastKeyByte,
     RecordedFirstMatrixWord,
+    RecordedWiped,
     RecordedRoundCount,
     RecordedMissing,
     LastStateWord,
@@ -61,6 +67,13 @@ impl Faulty {
     }
 }
 
+/// Puts the end matrix where an accepted call has wiped it.
+fn leave_end_matrix(inputs: &Inputs, key_len: usize, matrix: &mut [u64]) {
+    let mut record = vec![0; inputs.parameters(key_len).record_words() as usize];
+    let answer = Proved.derive_recorded(inputs, &mut vec![0; key_len], matrix, &mut record);
+    answer.expect("it has the operation").expect("it accepts");
+}
+
 impl Subject for Faulty {
     fn derive_recorded(
         &self,
@@ -69,11 +82,13 @@ impl Subject for Faulty {
         matrix: &mut [u64],
         record: &mut [u64],
     ) -> Option<Result<Recorded, Refusal>> {
-        let used = inputs.parameters(key.len()).record_words() as usize;
+        let given = inputs.parameters(key.len());
+        let used = given.record_words() as usize;
         let mut answer = Proved.derive_recorded(inputs, key, matrix, record)?;
         match (&mut answer, self.0) {
             (Ok(_), RecordedLastKeyByte) => key[key.len() - 1] ^= 1,
             (Ok(_), RecordedFirstMatrixWord) => matrix[0] ^= 1,
+            (Ok(_), RecordedWiped) => matrix[..given.matrix_words() as usize].fill(0),
             (Ok(recorded), LastStateWord) => recorded.state[15] ^= 1,
             (Ok(recorded), RecordedRoundCount) => recorded.counts.rounds += 1,
             (Ok(_), LastRecordWord) if used > 0 => record[used - 1] ^= 1,
@@ -113,7 +128,9 @@ impl Subject for Faulty {
         }
         match (&mut answer, self.0) {
             (Ok(_), LastKeyByte) => key[key.len() - 1] ^= 1,
+            (Ok(_), FirstMatrixWord) => matrix[0] ^= 1,
             (Ok(_), LastMatrixWord) => matrix[used - 1] ^= 1,
+            (Ok(_), EndMatrixLeft) => leave_end_matrix(inputs, key.len(), matrix),
             (Ok(_), WordPastMatrix) => matrix[used..].iter_mut().take(1).for_each(|w| *w = 0),
             (Err(_), KeyOnRefusal) => key.fill(0),
             (Err(_), MatrixOnRefusal) => matrix.fill(0),
@@ -131,7 +148,11 @@ impl Subject for Faulty {
     ) -> Result<Checked, Refusal> {
         let before = matrix.to_vec();
         let mut key = vec![0; stored.len()];
-        let mut checked = Proved.check(inputs, stored, matrix)?;
+        let answer = Proved.check(inputs, stored, matrix);
+        if answer.is_err() && self.0 == CheckWipesOnRefusal {
+            matrix.fill(0);
+        }
+        let mut checked = answer?;
         match self.0 {
             CheckForgetsLastByte => {
                 Proved.derive(inputs, &mut key, matrix)?;
@@ -139,6 +160,8 @@ impl Subject for Faulty {
             }
             CheckSaysNo => checked.matches = false,
             CheckKeepsMatrix => matrix.copy_from_slice(&before),
+            CheckLeavesEndMatrix => leave_end_matrix(inputs, stored.len(), matrix),
+            CheckWipesPastMatrix => matrix.fill(0),
             _ => (),
         }
         Ok(checked)
@@ -161,19 +184,25 @@ impl Subject for Faulty {
 fn every_fault_is_noticed() {
     for fault in [
         LastKeyByte,
+        FirstMatrixWord,
         LastMatrixWord,
         WordPastMatrix,
+        EndMatrixLeft,
         KeyOnRefusal,
         MatrixOnRefusal,
         RoundCount,
         CheckForgetsLastByte,
         CheckSaysNo,
         CheckKeepsMatrix,
+        CheckLeavesEndMatrix,
+        CheckWipesPastMatrix,
+        CheckWipesOnRefusal,
         CostOfOneBlock,
         EverythingRefused,
         RefusalNumber,
         RecordedLastKeyByte,
         RecordedFirstMatrixWord,
+        RecordedWiped,
         RecordedRoundCount,
         RecordedMissing,
         LastStateWord,

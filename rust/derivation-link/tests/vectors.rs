@@ -1,7 +1,7 @@
 //! The vectors file put to the proved library.
 //!
-//! A line of the recorded derivation is also put to the plain derivation, the check and the cost question,
-//! which share its key, counts and matrix.
+//! A line of the recorded derivation is also put to the plain derivation, the check and the cost question, which
+//! share its key and counts; the first two have to leave zeros where it has its end matrix.
 
 use derivation_link::Proved;
 use lyra2_reference::vectors::{read, run, Answer, Case, Coverage, Question};
