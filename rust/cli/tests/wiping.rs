@@ -6,7 +6,7 @@
 mod common;
 
 use common::{command, hex, words, TemporaryFile};
-use lyra2_reference::{derive, Inputs};
+use lyra2_reference::{derive_recorded, Inputs};
 use std::fs::File;
 use std::io::{PipeReader, Read, Seek, SeekFrom, Write};
 use std::process::{Child, Stdio};
@@ -42,7 +42,8 @@ fn holds(memory: &[Vec<u8>], wanted: &[u8]) -> bool {
     memory.iter().any(is_in)
 }
 
-/// The key, and the words of the end matrix as bytes.
+/// The key, and the words of the end matrix as bytes. The recorded derivation keeps the matrix that the plain one has
+/// before it wipes it.
 fn due() -> ([u8; 64], Vec<u8>) {
     let inputs = Inputs {
         password: PASSWORD,
@@ -52,7 +53,8 @@ fn due() -> ([u8; 64], Vec<u8>) {
         c: 4,
     };
     let (mut key, mut matrix) = ([0; 64], [0; 12 * 16 * 4]);
-    derive(&inputs, &mut key, &mut matrix).expect("no check refuses");
+    let mut record = [0; 16 * (2 + 2 * 4)];
+    derive_recorded(&inputs, &mut key, &mut matrix, &mut record).expect("no check refuses");
     let bytes = matrix.iter().flat_map(|word: &u64| word.to_le_bytes());
     (key, bytes.collect())
 }
