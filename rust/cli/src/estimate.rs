@@ -1,7 +1,7 @@
 //! How long a derivation takes, told from a small one that is timed on the spot.
 
 use crate::failure::Failure;
-use crate::secret::Secret;
+use crate::memory;
 use lyra2::{Parameters, ROWS};
 use std::time::Instant;
 
@@ -22,7 +22,7 @@ pub fn seconds(parameters: Parameters, reduced_calls: u64) -> Result<f64, Failur
             .max(*ROWS.start()),
         columns: parameters.columns,
     };
-    let mut matrix = Secret::zeros("matrix", small.matrix_words())?;
+    let mut matrix = memory::matrix(small.matrix_words())?;
     let mut times = [0.0; TURNS];
     for time in &mut times {
         let began = Instant::now();

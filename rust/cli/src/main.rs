@@ -13,6 +13,7 @@ mod failure;
 mod help;
 mod hex;
 mod input;
+mod memory;
 mod outcome;
 mod password;
 mod reading;

@@ -4,6 +4,7 @@
 //! that the system makes, in a pipe or by swapping, are out of reach.
 
 use crate::failure::Failure;
+use crate::memory;
 use std::hint::black_box;
 use std::ops::{Deref, DerefMut};
 
@@ -26,19 +27,9 @@ pub struct Secret<T: Copy + Default> {
 impl<T: Copy + Default> Secret<T> {
     /// Zeros; if the memory is not there the failure names what it was for.
     pub fn zeros(what: &str, count: Option<usize>) -> Result<Secret<T>, Failure> {
-        let missing = || {
-            let size = count.and_then(|count| count.checked_mul(size_of::<T>()));
-            let bytes = size.map_or("too many".to_string(), |bytes| bytes.to_string());
-            Failure::Trouble(format!("no memory for the {what} of {bytes} bytes"))
-        };
-        let count = count.ok_or_else(missing)?;
-        let mut places = Vec::new();
-        places.try_reserve_exact(count).map_err(|_| missing())?;
-        places.resize(count, T::default());
-        Ok(Secret {
-            places,
-            used: count,
-        })
+        let places = memory::zeros(what, count)?;
+        let used = places.len();
+        Ok(Secret { places, used })
     }
 
     /// Leaves out everything from a place on. It is still wiped.

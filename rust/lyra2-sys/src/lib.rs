@@ -51,7 +51,7 @@ pub struct Sizes {
     pub columns: usize,
 }
 
-/// The plain derivation: fills the key and the used matrix.
+/// The plain derivation: fills the key, and leaves zeros in the used matrix.
 pub fn derive(input: Input, key: &mut [u8], matrix: &mut [u64], counts: &mut Counts) -> u32 {
     // SAFETY: each pointer comes from a slice and goes with that slice's length, `counts` has the three words
     // that the call may write, and key, matrix and counts are borrowed by this call alone.
@@ -73,8 +73,8 @@ pub fn derive(input: Input, key: &mut [u8], matrix: &mut [u64], counts: &mut Cou
     }
 }
 
-/// The recorded derivation: also fills the used record, and `state` becomes the state after the last visit, or
-/// after Setup where T is 0.
+/// The recorded derivation: keeps the end matrix and fills the used record, and `state` becomes the state after the
+/// last visit, or after Setup where T is 0.
 pub fn derive_recorded(
     input: Input,
     key: &mut [u8],
@@ -106,7 +106,8 @@ pub fn derive_recorded(
     }
 }
 
-/// The check: `same` becomes 1 if the stored bytes are the key, else 0; refused, it becomes 0.
+/// The check: `same` becomes 1 if the stored bytes are the key, else 0; refused, it becomes 0. The used matrix ends as
+/// zeros.
 pub fn check(
     input: Input,
     stored: &[u8],

@@ -22,8 +22,9 @@
 //! # Ok::<(), lyra2::Refusal>(())
 //! ```
 //!
-//! After a derivation or a check the matrix holds what was made from the password: overwrite it before lending
-//! it to anything else. The stack below the call may still hold the state, whose words are the key.
+//! After a derivation or a check the used words of the matrix are zero, so it can be lent to anything else at once.
+//! Key and password are the caller's to overwrite, and so are the matrix, the record and the state of a
+//! [recorded derivation](derive_recorded): they are kept for a comparison, and give the key away.
 //!
 //! # A check
 //!

@@ -57,7 +57,7 @@ fn input<'a>(password: &'a [u8], salt: &'a [u8], parameters: Parameters) -> lyra
     }
 }
 
-/// The plain derivation: fills the key, whose length is the key length, and the used matrix.
+/// The plain derivation: fills the key, whose length is the key length, and leaves zeros in the used matrix.
 ///
 /// Words of the matrix past the used ones keep their contents. Refusals, in the order of the checks: 1, 2, 3, 10,
 /// 4, 5, 6, 7.
@@ -74,10 +74,10 @@ pub fn derive(
     Ok(Counts::stored(counts))
 }
 
-/// The recorded derivation: as the plain one, and fills the used record with the rows and columns of each visit.
-/// With T = 0 there is no visit and no used record, so an empty one is enough.
+/// The recorded derivation: the same key; keeps the end matrix, and fills the used record with the rows and columns
+/// of each visit. With T = 0 there is no visit and no used record, so an empty one is enough.
 ///
-/// Words of the record past the used ones keep their contents. Refusals, in the order of the checks: 1, 2, 3, 10,
+/// Words of the matrix and the record past the used ones keep their contents. Refusals, in the order of the checks: 1, 2, 3, 10,
 /// 4, 5, 6, 7, 8.
 ///
 /// ```
@@ -121,8 +121,8 @@ pub fn derive_recorded(
 
 /// The check: derives a key as long as the stored one and tells whether they are the same.
 ///
-/// The comparison looks at every byte, wherever the keys differ. The matrix is left as [`derive()`] leaves it.
-/// Refusals as of [`derive()`].
+/// The comparison looks at every byte, wherever the keys differ. The used matrix ends as zeros,
+/// as [`derive()`] leaves it. Refusals as of [`derive()`].
 pub fn check(
     password: &[u8],
     salt: &[u8],

@@ -3,10 +3,9 @@
 use super::Command;
 use crate::arguments::Arguments;
 use crate::failure::Failure;
-use crate::help;
 use crate::input::{stored_key, Input};
 use crate::outcome::Outcome;
-use crate::secret::Secret;
+use crate::{help, memory};
 
 pub const COMMAND: Command = Command {
     name: "check",
@@ -41,7 +40,7 @@ fn run(arguments: &Arguments) -> Result<Outcome, Failure> {
     let stored = stored_key(arguments)?;
     let input = Input::read(arguments)?;
     input.ask_cost(stored.len())?;
-    let mut matrix = Secret::zeros("matrix", input.parameters.matrix_words())?;
+    let mut matrix = memory::matrix(input.parameters.matrix_words())?;
     let checked = input.check(&stored, &mut matrix)?;
     let word = if checked.same { "yes\n" } else { "no\n" };
     Ok(Outcome::answer(checked.same, word.to_string()))

@@ -27,8 +27,8 @@ pub const COMMAND: Command = Command {
         "Prints the full calls, the reduced calls and the rounds of a derivation with these numbers, the\n\
          bytes of the matrix and of the visit record, and the expected seconds. No password is asked for.",
         "The seconds are an estimate: a derivation over a matrix of at most 6 MiB is timed three times on\n\
-         the spot, and its median is scaled by the number of reduced calls. Setting memory aside and wiping\n\
-         it comes on top, and a matrix beyond the processor's caches or a busy machine takes longer.",
+         the spot, and its median is scaled by the number of reduced calls. Setting memory aside comes on\n\
+         top, and a matrix beyond the processor's caches or a busy machine takes longer.",
         help::COSTS,
         "  --key-length N        bytes of the key, 1 to 1024\n\
          \x20 --password-length N   bytes of the password, 0 to 1024\n\

@@ -6,7 +6,7 @@ use crate::failure::Failure;
 use crate::input::Input;
 use crate::outcome::Outcome;
 use crate::secret::Secret;
-use crate::{help, hex};
+use crate::{help, hex, memory};
 
 pub const COMMAND: Command = Command {
     name: "derive",
@@ -39,7 +39,7 @@ fn run(arguments: &Arguments) -> Result<Outcome, Failure> {
     let input = Input::read(arguments)?;
     input.ask_cost(key_length)?;
     let mut key = Secret::zeros("key", Some(key_length))?;
-    let mut matrix = Secret::zeros("matrix", input.parameters.matrix_words())?;
+    let mut matrix = memory::matrix(input.parameters.matrix_words())?;
     input.derive(&mut key, &mut matrix)?;
     Ok(Outcome::result(hex::line(&key)?))
 }
