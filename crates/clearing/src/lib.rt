@@ -10,32 +10,35 @@ ghost use Rattle.profile.specs.Profile.{stateWords};
 ghost use Rattle.settings.specs.Settings.{settings};
 ghost use Rattle.settings.specs.Sizes.{matrixWords};
 
-// Zeros in the first n words.
-pub fn clear(words: &mut [u64], n: usize)
-    requires { ⌜ n ≤ length (now words) ⌝ }
-    ensures { λ _. ⌜ now (words .exit) ≡ cleared n (now (words .entry)) ⌝ }
-{
-    let mut j = 0;
-    while j < n {
-        words[j] = 0;
-        j += 1;
-    }
-}
-
-// Zeros in the used matrix.
-pub fn clear_matrix(m: &mut [u64], p: Parameters)
-    requires { ⌜ matrixWords (settings p) ≤ length (now m) ⌝ }
-    ensures { λ _. ⌜ now (m .exit) ≡ cleared (matrixWords (settings p)) (now (m .entry)) ⌝ }
-{
-    clear(m, matrix_words(p));
-}
-
 // Zeros in the state, and a word of it as the answer. A compiler leaves out stores that nothing reads; so a round reads the zeros, which
-// gives zeros again, and the caller adds the answer to a count. The round belongs to no call and is not counted.
+// gives zeros again, and the caller makes use of the answer. The round belongs to no call and is not counted.
 pub fn clear_state(s: &mut [u64; 16]) -> u64
     ensures { λ r. ⌜ (r ≡ 0) × (now (s .exit) ≡ replicate stateWords 0) ⌝ }
 {
     *s = [0; 16];
     round(s);
     s[0]
+}
+
+// Zeros in the first n words.
+pub fn clear(words: &mut [u64], n: usize, zero: u64)
+    requires { ⌜ (n ≤ length (now words)) × (zero ≡ 0) ⌝ }
+    ensures { λ _. ⌜ now (words .exit) ≡ cleared n (now (words .entry)) ⌝ }
+{
+    let mut j = 0;
+    while j < n {
+        words[j] = zero;
+        j += 1;
+    }
+}
+
+// Zeros in the used matrix. Of a zero that it knows the compiler would make a call of memset: a name from elsewhere, and at its first
+// call the linker may save the registers, with words of the state in them, on the stack.
+pub fn clear_matrix(m: &mut [u64], p: Parameters)
+    requires { ⌜ matrixWords (settings p) ≤ length (now m) ⌝ }
+    ensures { λ _. ⌜ now (m .exit) ≡ cleared (matrixWords (settings p)) (now (m .entry)) ⌝ }
+{
+    let mut zeros = [0; 16];
+    let zero = clear_state(&mut zeros);
+    clear(m, matrix_words(p), zero);
 }

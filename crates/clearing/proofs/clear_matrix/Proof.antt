@@ -10,5 +10,5 @@ use Rattle.clearing.proofs.clear_matrix.Tie as tie
 pub clear-matrix-spec : {M : Type 1} → statement M
 clear-matrix-spec =
     tie.close
-    (tie.spec (omega arith) (omega arith) (omega arith)
-    (λ c. c .before .before .clear .ensures ∙ ap (λ (n : ℕ). cleared n (now (c .before .before .before .before .before .before .args .m))) (c .before .before .before .matrix-words .ensures)))
+    (tie.spec (omega arith) (omega arith) (omega arith) (omega arith)
+    (λ c. c .before .before .clear .ensures ∙ ap (λ (n : ℕ). cleared n (now (c .before .before .before .before .before .before .before .before .args .m))) (c .before .before .before .matrix-words .ensures)))
