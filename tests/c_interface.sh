@@ -5,11 +5,12 @@ set -eu
 cd "$(dirname "$0")/.."
 . tests/c/build.sh
 
-# ---- the archive: five functions, nothing needed from elsewhere, no section to write in
+# ---- the archive: five functions, no section to write in, and from elsewhere memset alone, which the compiler makes of
+# the loop that wipes the matrix and which environments without a standard library have too
 names=$(nm -g --defined-only "$library" 2>"$work/log" | sed -n 's/^[0-9a-f]* //p' | sort | tr '\n' ' ')
 same 'exported names' 'T lyra2_check T lyra2_cost T lyra2_derive T lyra2_derive_recorded T lyra2_walk ' "$names"
 nm -u "$library" >"$work/undefined" 2>"$work/log"
-same 'names from elsewhere' '' "$(sed -n 's/^ *[Uwv] //p' "$work/undefined")"
+same 'names from elsewhere' 'memset' "$(sed -n 's/^ *[Uwv] //p' "$work/undefined")"
 readelf -SW "$library" >"$work/sections"
 grep -q ' AX ' "$work/sections" || { echo 'readelf shows no code'; exit 1; }
 same 'sections to write in' '' "$(grep -E ' (WA|WAT|AW)[A-Z]* ' "$work/sections" || true)"

@@ -81,7 +81,18 @@ static void require_answer_field(const struct lent *field, bool has, uint32_t an
 {
     require_kept(field, has ? field->bytes : 0, name);
     if (has && answer != LYRA2_ACCEPTED)
-        require_zeros(field, name);
+        require_zeros(field, field->bytes, name);
+}
+
+/* The recorded derivation keeps its end matrix, in which a word is 0 by chance once in 2^64; the others leave zeros. */
+static void require_matrix(const struct call *call, bool written)
+{
+    size_t used = written ? 8 * used_matrix(&call->sizes) : 0;
+    require_kept(&call->matrix, used, "matrix");
+    if (call->operation == RECORDED)
+        require_no_zero(&call->matrix, used, "matrix");
+    else
+        require_zeros(&call->matrix, used, "matrix");
 }
 
 /* Nothing may have changed but the answer's fields and what the operation writes when it is accepted. */
@@ -95,7 +106,7 @@ static void require_all_kept(const struct call *call)
     require_kept(&call->password, 0, "password");
     require_kept(&call->salt, 0, "salt");
     require_kept(&call->key, accepted && derives ? call->sizes.key : 0, "key");
-    require_kept(&call->matrix, accepted && walks ? 8 * used_matrix(&call->sizes) : 0, "matrix");
+    require_matrix(call, accepted && walks);
     require_kept(&call->record, accepted && records ? 8 * used_record(&call->sizes) : 0, "record");
     require_answer_field(&call->state, records, call->answer, "state");
     require_answer_field(&call->counts, true, call->answer, "counts");

@@ -90,12 +90,20 @@ void require_kept(const struct lent *lent, size_t used, const char *name)
         fail("%s: its contents were changed", name);
 }
 
-void require_zeros(const struct lent *lent, const char *name)
+void require_zeros(const struct lent *lent, size_t used, const char *name)
 {
     const uint8_t *part = lent_part(lent);
-    for (size_t i = 0; i < lent->bytes; i++)
+    for (size_t i = 0; i < used; i++)
         if (part[i] != 0)
             fail("%s: byte %zu is %02x, where 0 is due", name, i, part[i]);
+}
+
+void require_no_zero(const struct lent *lent, size_t used, const char *name)
+{
+    const uint64_t *words = lent_part(lent);
+    for (size_t i = 0; i < used / WORD_BYTES; i++)
+        if (words[i] == 0)
+            fail("%s: word %zu is 0", name, i);
 }
 
 void take_back(struct lent *lent)

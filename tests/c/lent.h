@@ -23,8 +23,11 @@ void *lent_part(const struct lent *lent);
  * with contents is for reading, and has to be as it was altogether. */
 void require_kept(const struct lent *lent, size_t used, const char *name);
 
-/* Ends the program unless every byte of the lent part is 0. */
-void require_zeros(const struct lent *lent, const char *name);
+/* Ends the program unless the first `used` bytes of the lent part are 0. */
+void require_zeros(const struct lent *lent, size_t used, const char *name);
+
+/* Ends the program if a word among the first `used` bytes of the lent part, which holds words, is 0. */
+void require_no_zero(const struct lent *lent, size_t used, const char *name);
 
 void take_back(struct lent *lent);
 

@@ -5,6 +5,9 @@
 #include <stdlib.h>
 #include <string.h>
 
+/* Words past the used ones, in the calls that lend more than is needed. */
+enum { SPARE = 5 };
+
 static const struct sizes usual = {32, 31, 8, 1, 3, 1, 36, 12};
 static const struct contents nothing = {NULL, NULL, NULL};
 
@@ -15,7 +18,7 @@ static void require_same(const struct lent *one, const struct lent *other, size_
         fail("%s: two operations differ", what);
 }
 
-/* The check says `due` of a stored key, and leaves matrix and counts as the derivation did. */
+/* The check says `due` of a stored key, with the counts of the derivation. */
 static void require_check(const struct call *derived, const uint8_t *stored, uint32_t due)
 {
     struct contents contents = {NULL, NULL, stored};
@@ -25,7 +28,6 @@ static void require_check(const struct call *derived, const uint8_t *stored, uin
     make_call(&check, CHECK, derived->sizes, contents);
     if (check.answer != LYRA2_ACCEPTED || *(uint32_t *)lent_part(&check.same) != due)
         fail("check: answer %u, same %u, where %u is due", check.answer, *(uint32_t *)lent_part(&check.same), due);
-    require_same(&check.matrix, &derived->matrix, 8 * used_matrix(&derived->sizes), "matrix of a check");
     require_same(&check.counts, &derived->counts, 8 * LYRA2_COUNTS, "counts of a check");
     end_call(&check);
 }
@@ -46,11 +48,10 @@ static void require_checks(const struct call *derived)
     free(stored);
 }
 
-/* All operations accept the sizes, with matrix and record that fit exactly, and agree with one another. */
-static void require_accepted(struct sizes sizes)
+/* All operations accept the sizes and agree with one another. */
+static void require_agreement(struct sizes sizes)
 {
     struct call recorded, plain, cost;
-    sizes = fitting(sizes);
     make_call(&recorded, RECORDED, sizes, nothing);
     struct contents contents = {lent_part(&recorded.password), lent_part(&recorded.salt), NULL};
     make_call(&plain, PLAIN, sizes, contents);
@@ -59,13 +60,18 @@ static void require_accepted(struct sizes sizes)
         fail("answers %u, %u, %u at T %zu, R %zu, C %zu", recorded.answer, plain.answer, cost.answer, sizes.time,
              sizes.rows, sizes.columns);
     require_same(&recorded.key, &plain.key, sizes.key, "key");
-    require_same(&recorded.matrix, &plain.matrix, 8 * sizes.matrix, "matrix");
     require_same(&recorded.counts, &plain.counts, 8 * LYRA2_COUNTS, "counts");
     require_same(&recorded.counts, &cost.counts, 8 * LYRA2_COUNTS, "counts and cost");
     require_checks(&plain);
     end_call(&recorded);
     end_call(&plain);
     end_call(&cost);
+}
+
+/* All operations accept the sizes with a matrix and a record that fit exactly. */
+static void require_accepted(struct sizes sizes)
+{
+    require_agreement(fitting(sizes));
 }
 
 /* Each operation that has the check refuses the sizes. */
@@ -128,8 +134,8 @@ static void require_limit(const struct limit *limit)
     }
 }
 
-/* The macros give the least words: with them a call is accepted, and refused with a word less. A record without visits
- * has no words. */
+/* The macros give the least words: with them a call is accepted, with words to spare too, and refused with a word less.
+ * A record without visits has no words. */
 static void require_least_words(size_t time, size_t rows, size_t columns)
 {
     struct sizes sizes = usual;
@@ -137,6 +143,10 @@ static void require_least_words(size_t time, size_t rows, size_t columns)
     sizes.rows = rows;
     sizes.columns = columns;
     require_accepted(sizes);
+    sizes = fitting(sizes);
+    sizes.matrix += SPARE;
+    sizes.record += SPARE;
+    require_agreement(sizes);
     sizes = fitting(sizes);
     if (time > 0) {
         sizes.record--;

@@ -79,6 +79,20 @@ static void require_written(const char *name, const void *memory, size_t used, s
         fail("%s: written past its used part", name);
 }
 
+static void require_zeros_in(const char *name, const void *memory, size_t bytes)
+{
+    for (size_t i = 0; i < bytes; i++)
+        if (((const uint8_t *)memory)[i] != 0)
+            fail("%s: byte %zu is not zero", name, i);
+}
+
+/* Nothing is left in the used matrix of a plain derivation and a check. */
+static void require_wiped(const struct sizes *n, const struct memory *m)
+{
+    require_written("matrix", m->matrix, 8 * used_matrix(n), 8 * n->matrix);
+    require_zeros_in("matrix", m->matrix, 8 * used_matrix(n));
+}
+
 static uint32_t derive_recorded(const struct sizes *n, struct memory *m)
 {
     calls_made++;
@@ -111,7 +125,10 @@ static void require_derivation(const struct sizes *n, int recorded)
     struct memory m = lend_all(n);
     require_accepted(recorded ? derive_recorded(n, &m) : derive(n, &m));
     require_written("key", m.key, n->key, n->key);
-    require_written("matrix", m.matrix, 8 * used_matrix(n), 8 * n->matrix);
+    if (recorded)
+        require_written("matrix", m.matrix, 8 * used_matrix(n), 8 * n->matrix);
+    else
+        require_wiped(n, &m);
     require_written("record", m.record, recorded ? 8 * used_record(n) : 0, 8 * n->record);
     require_written("state", m.state, recorded ? 8 * LYRA2_STATE_WORDS : 0, 8 * LYRA2_STATE_WORDS);
     require_written("counts", m.counts, 8 * LYRA2_COUNTS, 8 * LYRA2_COUNTS);
@@ -132,7 +149,7 @@ static void require_check(const struct sizes *n, int wrong)
     (void)VALGRIND_MAKE_MEM_UNDEFINED(m.matrix, 8 * n->matrix);
     (void)VALGRIND_MAKE_MEM_UNDEFINED(m.counts, 8 * LYRA2_COUNTS);
     require_accepted(check(n, &m));
-    require_written("matrix", m.matrix, 8 * used_matrix(n), 8 * n->matrix);
+    require_wiped(n, &m);
     require_written("counts", m.counts, 8 * LYRA2_COUNTS, 8 * LYRA2_COUNTS);
     (void)VALGRIND_MAKE_MEM_DEFINED(m.same, sizeof *m.same);
     if (*m.same != !wrong)
@@ -144,9 +161,7 @@ static void require_check(const struct sizes *n, int wrong)
 static void require_zero_field(const char *name, void *field, size_t bytes)
 {
     require_written(name, field, bytes, bytes);
-    for (size_t i = 0; i < bytes; i++)
-        if (((uint8_t *)field)[i] != 0)
-            fail("%s: not zero after a refusal", name);
+    require_zeros_in(name, field, bytes);
     (void)VALGRIND_MAKE_MEM_UNDEFINED(field, bytes);
 }
 

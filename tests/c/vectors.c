@@ -1,6 +1,6 @@
 /*
  * The vectors file put to the C interface: all its lines but those of the walk program, each between guards. A line of
- * the recorded derivation is put to the other operations as well, which share its key, counts and matrix.
+ * the recorded derivation is put to the other operations as well, which share its key and counts.
  */
 #include "calls.h"
 #include "fields.h"
@@ -102,7 +102,13 @@ static void require_recorded(struct text line, const struct call *call)
     require_listed(line, "matrix", &call->matrix, matrix);
 }
 
-/* Makes the call of a line, and holds an accepted one to what all operations share. `same` is a check's answer. */
+/* A line tells the matrix of its own operation; make_call holds every plain derivation and check to zeros. */
+static bool tells_matrix(struct text line, enum operation operation)
+{
+    return operation != COST && is(require_field(line, "op"), operation_names[operation]);
+}
+
+/* Makes the call of a line, and holds an accepted one to what the line tells of it. `same` is a check's answer. */
 static void require_call(struct text line, enum operation operation, const struct question *asked, uint32_t due,
                          uint32_t same)
 {
@@ -112,7 +118,7 @@ static void require_call(struct text line, enum operation operation, const struc
         fail("%s: %u is due, %u was answered", operation_names[operation], due, call.answer);
     if (due == LYRA2_ACCEPTED) {
         require_counts(line, &call);
-        if (operation != COST)
+        if (tells_matrix(line, operation))
             require_sum(line, "matrix_sum", &call.matrix, used_matrix(&call.sizes));
         if (operation == RECORDED || operation == PLAIN)
             require_key(line, &call);
