@@ -96,7 +96,7 @@ for program in limits refusals; do
     build_faulty 0 $program
     "$work/faulty" >"$work/log" 2>&1 || { cat "$work/log"; echo 'the wrapped library without a fault fails'; exit 1; }
 done
-for fault in {1..33}; do
+for fault in {1..54}; do
     is_found "$fault" || { echo "fault $fault is not found"; exit 1; }
 done
 echo "C interface: $(sed 's/^vectors: //' "$work/ran"); $headers wrong headers, $wrong wrong lines and $fault faulty libraries were found"

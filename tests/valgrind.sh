@@ -44,10 +44,18 @@ done <<'END'
 11 state: depends on what the memory held
 14 same: depends on what the memory held
 18 row1: depends on what the memory held
-40 Invalid read of size 1
-41 Invalid read of size 1
-42 key: depends on what the memory held
-43 Invalid write of size 8
-44 Conditional jump or move depends on uninitialised value
+9 matrix: byte [0-9]* is not zero
+34 matrix: byte 0 is not zero
+39 matrix: written past its used part
+41 Invalid write of size 8
+44 matrix: byte [0-9]* is not zero
+48 matrix: written past its used part
+50 Invalid write of size 8
+54 matrix: depends on what the memory held
+60 Invalid read of size 1
+61 Invalid read of size 1
+62 key: depends on what the memory held
+63 Invalid write of size 8
+64 Conditional jump or move depends on uninitialised value
 END
 echo "valgrind: $(sed 's/^memcheck: //' "$work/ran") without an error, $found faulty libraries were found"

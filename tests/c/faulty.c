@@ -1,10 +1,12 @@
 /*
  * A library with one fault, to see that the tests of the C interface find it: linked with --wrap, it stands between a
- * test and the library. FAULT chooses the fault; 0 is none, and those from 40 on are seen by memcheck alone.
+ * test and the library. FAULT chooses the fault; 0 is none, those from 60 on are seen by memcheck alone, and those from
+ * 70 on by the search of the stack alone.
  */
 #include "lyra2.h"
 
 #include <stdbool.h>
+#include <stdlib.h>
 #include <string.h>
 
 #define DERIVE_PARAMETERS                                                                                          \
@@ -39,6 +41,63 @@ static bool has(int fault, bool condition)
     return FAULT == fault && condition;
 }
 
+/* Whether a plain derivation or a check is accepted, so that the used matrix is there to look at beforehand. */
+static bool is_accepted(DERIVE_PARAMETERS)
+{
+    uint64_t counts[LYRA2_COUNTS];
+    (void)password, (void)salt, (void)key, (void)matrix;
+    return __real_lyra2_cost(key_len, password_len, salt_len, time, rows, columns, counts) == LYRA2_ACCEPTED
+        && matrix_words >= LYRA2_MATRIX_WORDS(rows, columns);
+}
+
+/* The recorded derivation in the place of an accepted plain one: the same key, and its end matrix. */
+static void record_instead(DERIVE_PARAMETERS)
+{
+    size_t record_words = LYRA2_RECORD_WORDS(time, rows, columns);
+    uint64_t state[LYRA2_STATE_WORDS], counts[LYRA2_COUNTS], *record = malloc(8 * record_words + 1);
+    if (record == NULL
+        || __real_lyra2_derive_recorded(DERIVE_VALUES, record, record_words, state, counts) != LYRA2_ACCEPTED)
+        abort();
+    free(record);
+}
+
+static void fill(uint64_t *words, size_t from, size_t to, uint64_t value)
+{
+    while (from < to)
+        words[from++] = value;
+}
+
+/* What is wrong in the matrix of an accepted plain derivation or check: words left, or too many wiped. */
+enum { FIRST_LEFT, LAST_LEFT, ROW_LEFT, SETUP_LEFT, NOT_WIPED, PAST_WIPED, ALL_WIPED };
+
+static void spoil_matrix(int fault, DERIVE_PARAMETERS)
+{
+    size_t used = LYRA2_MATRIX_WORDS(rows, columns);
+    if (fault == FIRST_LEFT)
+        matrix[0] = 1;
+    if (fault == LAST_LEFT)
+        matrix[used - 1] = 1;
+    if (fault == ROW_LEFT)
+        fill(matrix, LYRA2_MATRIX_WORDS(rows - 1, columns), used, 1);
+    if (fault == SETUP_LEFT && time == 0)
+        fill(matrix, 0, used, 1);
+    if (fault == NOT_WIPED)
+        record_instead(DERIVE_VALUES);
+    if (fault == PAST_WIPED && used < matrix_words)
+        matrix[used] = 0;
+    if (fault == ALL_WIPED)
+        fill(matrix, 0, matrix_words, 0);
+}
+
+/* Leaves up to eight bytes on the stack, where no word starts, as a function does that does not wipe its own place. */
+static void leave(const uint8_t *bytes, size_t count)
+{
+    volatile uint64_t words[2];
+    volatile uint8_t *place = (volatile uint8_t *)words + 3;
+    for (size_t i = 0; i < count && i < 8; i++)
+        place[i] = bytes[i];
+}
+
 /* A refusal that is wrong in its number alone. */
 static uint32_t refuse(uint32_t refusal, uint64_t *counts)
 {
@@ -50,8 +109,9 @@ uint32_t __wrap_lyra2_derive(DERIVE_PARAMETERS, uint64_t *counts)
 {
     volatile uint8_t seen = 0;
     uint64_t rounds = counts[LYRA2_ROUNDS];
-    uint64_t before = has(42, columns > 0 && matrix_words >= 36) ? matrix[35] : 0;
-    if (has(40, key_len == 0))
+    bool looks = FAULT == 54 || FAULT == 62;
+    uint64_t before = looks && is_accepted(DERIVE_VALUES) ? matrix[35] : 0;
+    if (has(60, key_len == 0))
         seen = salt[0];
     if (has(1, password_len == LYRA2_PASSWORD_MAX + 1))
         password_len--;
@@ -90,11 +150,29 @@ uint32_t __wrap_lyra2_derive(DERIVE_PARAMETERS, uint64_t *counts)
     if (has(8, !accepted && key_len > 0))
         key[0] ^= 1;
     if (has(9, accepted))
-        matrix[LYRA2_MATRIX_WORDS(rows, columns) - 1] ^= 1;
-    if (has(41, accepted))
+        matrix[LYRA2_MATRIX_WORDS(rows, columns) / 2] ^= 1;
+    if (accepted)
+        spoil_matrix(FAULT - 34, DERIVE_VALUES);
+    if (has(41, !accepted))
+        fill(matrix, 0, matrix_words, 0);
+    if (has(42, answer == LYRA2_REFUSED_MATRIX))
+        fill(matrix, 0, matrix_words, 0);
+    if (has(54, accepted))
+        matrix[35] = before;
+    if (has(61, accepted))
         seen = password[password_len];
-    if (has(42, accepted))
+    if (has(62, accepted))
         key[0] ^= (uint8_t)before;
+    if (has(70, accepted))
+        leave(key, key_len);
+    if (has(71, accepted))
+        leave(key + key_len - 1, 1);
+    if (has(72, accepted))
+        leave(password, password_len);
+    if (has(73, accepted)) {
+        record_instead(DERIVE_VALUES);
+        fill(matrix, 0, LYRA2_MATRIX_WORDS(rows, columns), 0);
+    }
     (void)seen;
     return answer;
 }
@@ -117,8 +195,16 @@ uint32_t __wrap_lyra2_derive_recorded(DERIVE_PARAMETERS, uint64_t *record, size_
         counts[LYRA2_FULL_CALLS] = full;
     if (has(21, answer == LYRA2_REFUSED_MATRIX && record_words > 0))
         record[0] = 0;
-    if (has(43, !accepted && record_words > 0))
+    if (has(52, accepted))
+        fill(matrix, 0, LYRA2_MATRIX_WORDS(rows, columns), 0);
+    if (has(53, accepted))
+        matrix[LYRA2_MATRIX_WORDS(rows, columns) - 1] = 0;
+    if (has(63, !accepted && record_words > 0))
         *(volatile uint64_t *)record = *(volatile uint64_t *)record;
+    if (has(77, accepted))
+        leave(key, key_len);
+    if (has(78, accepted))
+        leave(key + key_len - 1, 1);
     return answer;
 }
 
@@ -148,7 +234,20 @@ uint32_t __wrap_lyra2_check(CHECK_PARAMETERS)
         *same = 0;
     if (has(16, accepted))
         *same = 1;
-    if (FAULT == 44 && accepted
+    if (accepted)
+        spoil_matrix(FAULT - 43, password, password_len, salt, salt_len, time, rows, columns, key, stored_len, matrix,
+                     matrix_words);
+    if (has(50, !accepted))
+        fill(matrix, 0, matrix_words, 0);
+    if (has(51, accepted && *same == 0))
+        matrix[0] = 1;
+    if (has(74, accepted))
+        leave(stored, stored_len);
+    if (has(75, accepted))
+        leave(stored + stored_len - 1, 1);
+    if (has(76, accepted))
+        leave(password, password_len);
+    if (FAULT == 64 && accepted
         && __real_lyra2_derive(password, password_len, salt, salt_len, time, rows, columns, key, stored_len, matrix,
                                matrix_words, counts) == LYRA2_ACCEPTED)
         *same = compare_early(stored, key, stored_len);
