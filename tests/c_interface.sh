@@ -1,6 +1,6 @@
 #!/usr/bin/env bash
-# The C interface from C: what the archive exports and needs, the header's limits, the refusals in pairs, the stack and
-# the vectors; and wrong headers, wrong vectors and faulty libraries, which these tests have to find.
+# The C interface from C: what the archive exports and needs, the header's limits, the refusals in pairs, the stack, what
+# is left on it, and the vectors; and wrong headers, wrong vectors and faulty libraries, which these tests have to find.
 set -eu
 cd "$(dirname "$0")/.."
 . tests/c/build.sh
@@ -16,14 +16,19 @@ grep -q ' AX ' "$work/sections" || { echo 'readelf shows no code'; exit 1; }
 same 'sections to write in' '' "$(grep -E ' (WA|WAT|AW)[A-Z]* ' "$work/sections" || true)"
 
 # ---- the programs
-compile limits refusals stack vectors fields calls lent
+compile limits refusals stack left marked vectors fields calls lent
 cc "${flags[@]}" "$work"/{limits,calls,lent}.o "$library" -o "$work/limits"
 cc "${flags[@]}" "$work"/{refusals,calls,lent}.o "$library" -o "$work/refusals"
-cc "${flags[@]}" "$work"/{stack,lent}.o "$library" -o "$work/stack"
+link_stack() { # LINKER_FLAG: with it the programs `stack` and `left`
+    cc "${flags[@]}" "$1" "$work"/{stack,marked,lent}.o "$library" -o "$work/stack"
+    cc "${flags[@]}" "$1" "$work"/{left,marked,calls,lent}.o "$library" -o "$work/left"
+}
+link_stack -Wl,-z,now
 cc "${flags[@]}" "$work"/{vectors,fields,calls,lent}.o "$library" -o "$work/vectors"
 "$work/limits"
 "$work/refusals"
 "$work/stack"
+"$work/left"
 "$work/vectors" vectors/lyra2.txt >"$work/ran"
 cat "$work/ran"
 
@@ -31,6 +36,13 @@ cat "$work/ran"
 for op in derive_recorded derive check cost walk; do
     lines=$(grep -c " op=$op " vectors/lyra2.txt)
     grep -qE " $lines $op( lines|,)" "$work/ran" || { echo "not all $lines lines of $op were run"; exit 1; }
+done
+
+# Linked lazily, memset is looked up in the midst of the first call, on its stack and with its registers saved there.
+link_stack -Wl,-z,lazy
+for program in stack left; do
+    ! env -u LD_BIND_NOW "$work/$program" >"$work/log" 2>&1 || { echo "a lazy link passes: $program"; exit 1; }
+    grep -qE '^(stack:)?FAILED: derive.* (bytes of stack|left on the stack)$' "$work/log" || { cat "$work/log"; exit 1; }
 done
 
 # ---- wrong headers: a constant or a sentence changed
@@ -96,7 +108,31 @@ for program in limits refusals; do
     build_faulty 0 $program
     "$work/faulty" >"$work/log" 2>&1 || { cat "$work/log"; echo 'the wrapped library without a fault fails'; exit 1; }
 done
+found=0
 for fault in {1..54}; do
     is_found "$fault" || { echo "fault $fault is not found"; exit 1; }
+    found=$((found + 1))
 done
-echo "C interface: $(sed 's/^vectors: //' "$work/ran"); $headers wrong headers, $wrong wrong lines and $fault faulty libraries were found"
+
+# Those that leave something on the stack, and what is said of each.
+report_left() { # FAULT
+    compile_fault "$1"
+    cc "$wrapped" -Wl,-z,now "$work"/{left,marked,calls,lent,faulty}.o "$library" -o "$work/faulty" || exit 1
+    "$work/faulty" 2>&1 && echo 'nothing is found'
+}
+same 'the stack of the wrapped library without a fault' 'nothing is found' "$(report_left 0 | tail -n 1)"
+while read -r fault words; do
+    same "fault $fault" "FAILED: $words" "$(report_left "$fault")"
+    found=$((found + 1))
+done <<'END'
+70 derive: the key from byte 0 on is left on the stack
+71 derive: 1 words on the stack depend on the password
+72 derive: the password from byte 0 on is left on the stack
+73 derive: the state from byte 0 on is left on the stack
+74 check: the key from byte 0 on is left on the stack
+75 check: 1 words on the stack depend on the password
+76 check: the password from byte 0 on is left on the stack
+77 derive_recorded: the key from byte 0 on is left on the stack
+78 derive_recorded: 1 words on the stack depend on the password
+END
+echo "C interface: $(sed 's/^vectors: //' "$work/ran"); $headers wrong headers, $wrong wrong lines and $found faulty libraries were found"

@@ -1,13 +1,11 @@
 /* The stack that a call uses stays below the header's number: each operation runs on a stack that is marked before. */
-#define _XOPEN_SOURCE 700
 #include "lent.h"
 #include "lyra2.h"
+#include "marked.h"
 
 #include <stdio.h>
-#include <string.h>
-#include <ucontext.h>
 
-enum { ROWS = 20, COLUMNS = 17, TIME = 2, MARK = 0xa5, STACK = 1 << 16, OPERATIONS_RUN = 5 };
+enum { ROWS = 20, COLUMNS = 17, TIME = 2, OPERATIONS_RUN = 5 };
 
 static const char *const names[OPERATIONS_RUN] = {"derive", "derive_recorded", "check", "cost", "walk"};
 static const uint8_t password[LYRA2_PASSWORD_MAX], salt[LYRA2_SALT_MAX];
@@ -17,8 +15,6 @@ static uint64_t state[LYRA2_STATE_WORDS], counts[LYRA2_COUNTS];
 static uint32_t same, answer;
 static size_t row1;
 
-static ucontext_t here, there;
-static uint8_t stack[STACK];
 static int operation;
 
 static void call(void)
@@ -45,29 +41,11 @@ static void call(void)
     }
 }
 
-/* The bytes from the deepest one that the call wrote up to the stack's end, the caller's own included. */
-static size_t used_stack(void)
-{
-    memset(stack, MARK, sizeof stack);
-    if (getcontext(&there) != 0)
-        fail("no context");
-    there.uc_stack.ss_sp = stack;
-    there.uc_stack.ss_size = sizeof stack;
-    there.uc_link = &here;
-    makecontext(&there, call, 0);
-    if (swapcontext(&here, &there) != 0)
-        fail("no context");
-    size_t unused = 0;
-    while (unused < sizeof stack && stack[unused] == MARK)
-        unused++;
-    return sizeof stack - unused;
-}
-
 int main(void)
 {
     printf("stack:");
     for (operation = 0; operation < OPERATIONS_RUN; operation++) {
-        size_t used = used_stack();
+        size_t used = run_marked(call);
         if (answer != LYRA2_ACCEPTED)
             fail("%s: %s", names[operation], lyra2_sentence(answer));
         if (used >= LYRA2_STACK_BYTES)
