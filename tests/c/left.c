@@ -1,8 +1,8 @@
 /*
- * What an accepted call leaves on the stack that it used. The stack is searched, at every byte, for words of the key, the
- * password, the state and the end matrix. Then two calls that differ in the password's bytes alone are compared: what
- * differs on their stacks was made from the password. That may be a row, a column or a place in the matrix, as the visits
- * pick them, and with the recorded derivation a word of the state that it returns.
+ * What an accepted call leaves on the stack that it used. The stack is searched, at every byte, for words of the key,
+ * the password, the state and the end matrix. Then two calls that differ in the password's bytes alone are compared:
+ * what differs on their stacks was made from the password. That may be a row, a column or a place in the matrix, as the
+ * visits pick them, and with the recorded derivation a word of the state that it returns.
  */
 #include "calls.h"
 #include "marked.h"
