@@ -2,7 +2,8 @@
  * Derives a key from a password and checks it: asks the cost, lends the matrix, derives, checks the key and a wrong
  * one, and wipes what is secret. The password is all of standard input.
  *
- *     cc -std=c99 -Iinclude examples/derive_and_check.c target/staticlib/libderivation_export.a -o derive_and_check
+ *     cc -std=c99 -Iinclude -Wl,-z,now examples/derive_and_check.c target/staticlib/libderivation_export.a \
+ *         -o derive_and_check
  *     printf 'correct horse' | ./derive_and_check 'salt of 16 bytes' 1 256 64 32
  */
 #include "lyra2.h"
@@ -93,7 +94,8 @@ static uint32_t derive_and_check(const struct inputs *in, uint8_t *key, uint64_t
     return check(in, key, matrix, matrix_words);
 }
 
-/* Lends the memory. The cost question has accepted the numbers, so the matrix's size means something. */
+/* Lends the memory. The cost question has accepted the numbers, so the matrix's size means something. The matrix is not
+ * wiped here: the library leaves zeros in it, and a refused call leaves it alone. */
 static int run(const struct inputs *in)
 {
     size_t words = LYRA2_MATRIX_WORDS(in->rows, in->columns), bytes = words * sizeof(uint64_t);
@@ -105,7 +107,6 @@ static int run(const struct inputs *in)
     }
     uint32_t answer = derive_and_check(in, key, matrix, words);
     wipe(key, sizeof key);
-    wipe(matrix, bytes);
     free(matrix);
     return answer == LYRA2_ACCEPTED ? DONE : refuse(answer);
 }

@@ -13,10 +13,14 @@
  * Threads       Any number of calls at once, each with its own memory to write. Nobody else writes what a call is lent.
  * Time          Depends on the lengths and numbers, and on the rows and columns that the visits pick, which in Lyra2
  *               depend on the password. The check compares every byte, whatever it finds.
- * Secrets       Matrix, record and state are made from the password. Whoever has them can try guesses with them, and
- *               all three together give the key and mostly the password too, since the steps can be undone. Wipe them
- *               as you wipe the key and the password. A call does not wipe the stack that it used, less than
- *               LYRA2_STACK_BYTES, which may still hold words of the key.
+ * Secrets       Wipe the password, the key and, after a recorded derivation, matrix, record and state. Whoever has the
+ *               last three can try guesses with them, and all together give the key and mostly the password too, since
+ *               the steps can be undone. The matrix of lyra2_derive and lyra2_check needs no wiping: accepted, they end
+ *               with zeros in its used words, and it can be lent on at once; refused, they leave in it what it held.
+ * Stack         Less than LYRA2_STACK_BYTES. A call clears its state there: no word of the key, the password or the
+ *               matrix was found afterwards, and of the state only what a recorded derivation returns. This is measured
+ *               and not promised. Registers are not cleared. Link memset, which the library calls, statically or with
+ *               -z now: a linker that looks it up during the first call takes more stack and saves registers on it.
  */
 #ifndef LYRA2_H
 #define LYRA2_H
@@ -110,7 +114,7 @@ static inline const char *lyra2_sentence(uint32_t answer)
 #define LYRA2_ANSWER
 #endif
 
-/* Derives a key of key_len bytes. Writes the key, the used matrix and the counts. */
+/* Derives a key of key_len bytes. Writes the key, the used matrix, which ends as zeros, and the counts. */
 LYRA2_ANSWER uint32_t lyra2_derive(
     const uint8_t *password, size_t password_len,
     const uint8_t *salt, size_t salt_len,
@@ -120,8 +124,9 @@ LYRA2_ANSWER uint32_t lyra2_derive(
     uint64_t counts[LYRA2_COUNTS]);
 
 /*
- * The same key and matrix, with a record of the visits: row0, row1, and for each column col0 and col1. Writes the key,
- * the used matrix, the used record, the state after the last visit, or after Setup where time is 0, and the counts.
+ * The same key, with a record of the visits: row0, row1, and for each column col0 and col1. Writes the key, the used
+ * matrix as the last visit leaves it, the used record, the state after that visit, and the counts. Where time is 0,
+ * matrix and state are those after Setup.
  */
 LYRA2_ANSWER uint32_t lyra2_derive_recorded(
     const uint8_t *password, size_t password_len,
@@ -134,8 +139,8 @@ LYRA2_ANSWER uint32_t lyra2_derive_recorded(
     uint64_t counts[LYRA2_COUNTS]);
 
 /*
- * Tells whether the stored bytes are the key of their length: *same becomes 1 or 0. Writes the used matrix too, as
- * lyra2_derive does, and the counts. After a refusal *same is 0, a no.
+ * Tells whether the stored bytes are the key of their length: *same becomes 1 or 0. Writes the used matrix too, which
+ * ends as zeros, and the counts. After a refusal *same is 0, a no.
  */
 LYRA2_ANSWER uint32_t lyra2_check(
     const uint8_t *password, size_t password_len,
