@@ -2,8 +2,7 @@
  * Derives a key from a password and checks it: asks the cost, lends the matrix, derives, checks the key and a wrong
  * one, and wipes what is secret. The password is all of standard input.
  *
- *     cc -std=c99 -Iinclude -Wl,-z,now examples/derive_and_check.c target/staticlib/libderivation_export.a \
- *         -o derive_and_check
+ *     cc -std=c99 -Iinclude examples/derive_and_check.c target/staticlib/libderivation_export.a -o derive_and_check
  *     printf 'correct horse' | ./derive_and_check 'salt of 16 bytes' 1 256 64 32
  */
 #include "lyra2.h"

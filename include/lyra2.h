@@ -19,8 +19,7 @@
  *               with zeros in its used words, and it can be lent on at once; refused, they leave in it what it held.
  * Stack         Less than LYRA2_STACK_BYTES. A call clears its state there: no word of the key, the password or the
  *               matrix was found afterwards, and of the state only what a recorded derivation returns. This is measured
- *               and not promised. Registers are not cleared. Link memset, which the library calls, statically or with
- *               -z now: a linker that looks it up during the first call takes more stack and saves registers on it.
+ *               and not promised. Registers are not cleared.
  */
 #ifndef LYRA2_H
 #define LYRA2_H

@@ -25,7 +25,7 @@ printf '#include "lyra2.h"\nvoid ask(size_t *row1);\nvoid ask(size_t *row1) { ly
 grep -q 'unused-result' "$work/log" || { cat "$work/log"; exit 1; }
 
 # ---- the example
-cc "${flags[@]}" -Wl,-z,now examples/derive_and_check.c "$library" -o "$work/example"
+cc "${flags[@]}" examples/derive_and_check.c "$library" -o "$work/example"
 password='correct horse'
 numbers=('salt of 16 bytes' 1 256 64 32)
 same 'the example' "$(cat examples/derive_and_check.out)" "$(printf '%s' "$password" | "$work/example" "${numbers[@]}")"

@@ -28,7 +28,7 @@ static void prepare(void)
 
 size_t run_marked(void (*function)(void))
 {
-    volatile uint8_t *bytes = (volatile uint8_t *)marked_stack; /* so that the loop does not become a memset */
+    volatile uint8_t *bytes = (volatile uint8_t *)marked_stack; /* others write there */
     size_t unused = 0;
     prepare();
     for (size_t i = 0; i < MARKED_BYTES; i++)

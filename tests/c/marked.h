@@ -10,8 +10,7 @@ enum { MARKED_WORDS = 1 << 13, MARKED_BYTES = 8 * MARKED_WORDS };
 extern uint64_t marked_stack[MARKED_WORDS];
 
 /* Runs the function on the marked stack and tells the bytes from the deepest one that was written up to the stack's
- * end, its caller's own included. Every run starts with the same registers, so that two differ by what they read alone.
- * Nothing here calls memset, so that the library's call of it can be the first, for which a name may be looked up. */
+ * end, its caller's own included. Every run starts with the same registers, so that two differ by what they read alone. */
 size_t run_marked(void (*function)(void));
 
 #endif
