@@ -449,29 +449,32 @@ const WRONG_ENDS: [WrongEnd; 8] = [
     },
 ];
 
-/// The reference program with a wrong end in one of its operations.
-struct WrongWiping {
-    end: fn(&mut [u64], usize, usize),
+/// What is done to the lent matrix after a call, by its inputs, its key length and its refusal, if it has one.
+type Spoiling<'a> = &'a dyn Fn(&Inputs, usize, Option<Refusal>, &mut [u64]);
+
+/// The reference program with something done to the matrix after the calls of one operation.
+struct SpoiltMatrix<'a> {
     op: &'static str,
+    spoil: Spoiling<'a>,
 }
 
-impl WrongWiping {
-    /// Ends an accepted call wrongly, if it is of the operation; the end matrix is had from the recorded derivation.
-    fn spoil(&self, op: &str, inputs: &Inputs, key_len: usize, matrix: &mut [u64]) {
-        if op != self.op {
-            return;
+impl SpoiltMatrix<'_> {
+    fn spoilt<A>(
+        &self,
+        op: &str,
+        inputs: &Inputs,
+        key_len: usize,
+        matrix: &mut [u64],
+        answer: Result<A, Refusal>,
+    ) -> Result<A, Refusal> {
+        if op == self.op {
+            (self.spoil)(inputs, key_len, answer.as_ref().err().copied(), matrix);
         }
-        let given = inputs.parameters(key_len);
-        let mut record = vec![0; given.record_words() as usize];
-        let mut key = vec![0; key_len];
-        let answer = Reference.derive_recorded(inputs, &mut key, matrix, &mut record);
-        answer.expect("it has the operation").expect("it accepts");
-        let used = given.matrix_words() as usize;
-        (self.end)(matrix, used, used / inputs.r as usize);
+        answer
     }
 }
 
-impl Subject for WrongWiping {
+impl Subject for SpoiltMatrix<'_> {
     fn derive_recorded(
         &self,
         inputs: &Inputs,
@@ -480,104 +483,9 @@ impl Subject for WrongWiping {
         record: &mut [u64],
     ) -> Option<Result<Recorded, Refusal>> {
         let answer = Reference.derive_recorded(inputs, key, matrix, record)?;
-        if answer.is_ok() {
-            self.spoil("derive_recorded", inputs, key.len(), matrix);
-        }
-        Some(answer)
+        Some(self.spoilt("derive_recorded", inputs, key.len(), matrix, answer))
     }
 
-    fn derive(
-        &self,
-        inputs: &Inputs,
-        key: &mut [u8],
-        matrix: &mut [u64],
-    ) -> Result<Counts, Refusal> {
-        let counts = Reference.derive(inputs, key, matrix)?;
-        self.spoil("derive", inputs, key.len(), matrix);
-        Ok(counts)
-    }
-
-    fn check(
-        &self,
-        inputs: &Inputs,
-        stored: &[u8],
-        matrix: &mut [u64],
-    ) -> Result<Checked, Refusal> {
-        let checked = Reference.check(inputs, stored, matrix)?;
-        self.spoil("check", inputs, stored.len(), matrix);
-        Ok(checked)
-    }
-
-    fn cost(&self, given: &Parameters) -> Result<Counts, Refusal> {
-        Reference.cost(given)
-    }
-
-    fn walk(&self, r: u64, row0: u64) -> Result<u64, Refusal> {
-        Reference.walk(r, row0)
-    }
-}
-
-/// By the operation's own cases, and by those of the recorded derivation, which ask the other operations too.
-#[test]
-fn matrices_wiped_wrongly_are_noticed() {
-    let cases = small_cases();
-    for WrongEnd { name, end } in WRONG_ENDS {
-        for op in ["derive", "check"] {
-            for asked in [op, "derive_recorded"] {
-                let noticed = |case: &Case| {
-                    write::op(&case.question) == asked
-                        && run::check_case(&WrongWiping { end, op }, case).is_err()
-                };
-                // From the end, where the cases with words to spare stand; they are found sooner.
-                assert!(cases.iter().rev().any(noticed), "{name}: {op}, {asked}");
-            }
-        }
-    }
-}
-
-/// The right end of a plain derivation and of a check, and a wrong one of a recorded derivation.
-fn wiped(op: &'static str) -> WrongWiping {
-    let end = |lent: &mut [u64], used: usize, _: usize| lent[..used].fill(0);
-    WrongWiping { end, op }
-}
-
-/// Shows that above nothing but the wrong end is noticed.
-#[test]
-fn matrices_wiped_rightly_are_not_noticed() {
-    for case in small_cases() {
-        for op in ["derive", "check"] {
-            let outcome = run::check_case(&wiped(op), &case);
-            assert!(outcome.is_ok(), "case {}: {outcome:?}", case.number);
-        }
-    }
-}
-
-#[test]
-fn an_end_matrix_that_is_wiped_is_noticed() {
-    let mut cases = small_cases();
-    cases.retain(|case| matches!(case.answer, Answer::Recorded { .. }));
-    assert!(!cases.is_empty());
-    for case in cases {
-        let outcome = run::check_case(&wiped("derive_recorded"), &case);
-        assert!(outcome.is_err(), "case {}", case.number);
-    }
-}
-
-/// The reference program that wipes the matrix of one operation where it refuses with one number.
-struct WipesRefused {
-    refusal: Refusal,
-    op: &'static str,
-}
-
-impl WipesRefused {
-    fn spoil<A>(&self, op: &str, answer: &Result<A, Refusal>, matrix: &mut [u64]) {
-        if op == self.op && answer.as_ref().err() == Some(&self.refusal) {
-            matrix.fill(0);
-        }
-    }
-}
-
-impl Subject for WipesRefused {
     fn derive(
         &self,
         inputs: &Inputs,
@@ -585,8 +493,7 @@ impl Subject for WipesRefused {
         matrix: &mut [u64],
     ) -> Result<Counts, Refusal> {
         let answer = Reference.derive(inputs, key, matrix);
-        self.spoil("derive", &answer, matrix);
-        answer
+        self.spoilt("derive", inputs, key.len(), matrix, answer)
     }
 
     fn check(
@@ -596,8 +503,7 @@ impl Subject for WipesRefused {
         matrix: &mut [u64],
     ) -> Result<Checked, Refusal> {
         let answer = Reference.check(inputs, stored, matrix);
-        self.spoil("check", &answer, matrix);
-        answer
+        self.spoilt("check", inputs, stored.len(), matrix, answer)
     }
 
     fn cost(&self, given: &Parameters) -> Result<Counts, Refusal> {
@@ -609,18 +515,90 @@ impl Subject for WipesRefused {
     }
 }
 
+/// Ends an accepted call by a rule; the end matrix is had from the recorded derivation.
+fn ended(
+    end: fn(&mut [u64], usize, usize),
+) -> impl Fn(&Inputs, usize, Option<Refusal>, &mut [u64]) {
+    move |inputs, key_len, refusal, matrix| {
+        if refusal.is_some() {
+            return;
+        }
+        let given = inputs.parameters(key_len);
+        let mut record = vec![0; given.record_words() as usize];
+        let mut key = vec![0; key_len];
+        let answer = Reference.derive_recorded(inputs, &mut key, matrix, &mut record);
+        answer.expect("it has the operation").expect("it accepts");
+        let used = given.matrix_words() as usize;
+        end(matrix, used, used / inputs.r as usize);
+    }
+}
+
+/// Whether a small case of one operation finds that the matrix of another is spoilt.
+fn is_noticed(cases: &[Case], asked: &str, op: &'static str, spoil: Spoiling) -> bool {
+    let noticed = |case: &Case| {
+        write::op(&case.question) == asked
+            && run::check_case(&SpoiltMatrix { op, spoil }, case).is_err()
+    };
+    // From the end, where the cases with words to spare stand; they are found sooner.
+    cases.iter().rev().any(noticed)
+}
+
+/// By the operation's own cases, and by those of the recorded derivation, which ask the other operations too.
+#[test]
+fn matrices_wiped_wrongly_are_noticed() {
+    let cases = small_cases();
+    for WrongEnd { name, end } in WRONG_ENDS {
+        for op in ["derive", "check"] {
+            for asked in [op, "derive_recorded"] {
+                let found = is_noticed(&cases, asked, op, &ended(end));
+                assert!(found, "{name}: {op}, {asked}");
+            }
+        }
+    }
+}
+
+/// The right end of a plain derivation and of a check, and a wrong one of a recorded derivation.
+fn wiped() -> impl Fn(&Inputs, usize, Option<Refusal>, &mut [u64]) {
+    ended(|lent, used, _| lent[..used].fill(0))
+}
+
+/// Shows that above nothing but the wrong end is noticed.
+#[test]
+fn matrices_wiped_rightly_are_not_noticed() {
+    let spoil = &wiped();
+    for case in small_cases() {
+        for op in ["derive", "check"] {
+            let outcome = run::check_case(&SpoiltMatrix { op, spoil }, &case);
+            assert!(outcome.is_ok(), "case {}: {outcome:?}", case.number);
+        }
+    }
+}
+
+#[test]
+fn an_end_matrix_that_is_wiped_is_noticed() {
+    let (op, spoil) = ("derive_recorded", &wiped());
+    let mut cases = small_cases();
+    cases.retain(|case| matches!(case.answer, Answer::Recorded { .. }));
+    assert!(!cases.is_empty());
+    for case in cases {
+        let outcome = run::check_case(&SpoiltMatrix { op, spoil }, &case);
+        assert!(outcome.is_err(), "case {}", case.number);
+    }
+}
+
 #[test]
 fn a_refused_call_that_wipes_is_noticed_by_its_number() {
     let cases = small_cases();
-    for &refusal in PLAIN_CHECKS {
+    for &number in PLAIN_CHECKS {
+        let spoil = |_: &Inputs, _: usize, refusal: Option<Refusal>, matrix: &mut [u64]| {
+            if refusal == Some(number) {
+                matrix.fill(0);
+            }
+        };
         for op in ["derive", "check"] {
             for asked in [op, "derive_recorded"] {
-                let noticed = |case: &Case| {
-                    write::op(&case.question) == asked
-                        && run::check_case(&WipesRefused { refusal, op }, case).is_err()
-                };
-                let found = cases.iter().rev().any(noticed);
-                assert!(found, "{refusal:?}: {op}, {asked}");
+                let found = is_noticed(&cases, asked, op, &spoil);
+                assert!(found, "{number:?}: {op}, {asked}");
             }
         }
     }
