@@ -34,8 +34,8 @@ fn check_accepted(
     let mut s = [0; 16];
     let ran = run_plain(&mut s, password, salt, stored.len(), p, matrix);
     let c = compare(&mut s, stored);
-    let left = clear_state(&mut s);
-    let costs = spent(ran.full + (c.calls + left), ran.reduced, p);
+    let calls = clear_state(&mut s, c.calls);
+    let costs = spent(ran.full + calls, ran.reduced, p);
     Checked {
         costs,
         same: c.same,

@@ -10,14 +10,14 @@ ghost use Rattle.profile.specs.Profile.{stateWords};
 ghost use Rattle.settings.specs.Settings.{settings};
 ghost use Rattle.settings.specs.Sizes.{matrixWords};
 
-// Zeros in the state, and a word of it as the answer. A compiler leaves out stores that nothing reads; so a round reads the zeros, which
-// gives zeros again, and the caller makes use of the answer. The round belongs to no call and is not counted.
-pub fn clear_state(s: &mut [u64; 16]) -> u64
-    ensures { λ r. ⌜ (r ≡ 0) × (now (s .exit) ≡ replicate stateWords 0) ⌝ }
+// Zeros in the state; the answer is the number that is given. A compiler leaves out stores that nothing reads: so a round reads the
+// zeros, which gives zeros again, and a word of the result is added to the number. The round belongs to no call and is not counted.
+pub fn clear_state(s: &mut [u64; 16], number: u64) -> u64
+    ensures { λ r. ⌜ (r ≡ number) × (now (s .exit) ≡ replicate stateWords 0) ⌝ }
 {
     *s = [0; 16];
     round(s);
-    s[0]
+    number + s[0]
 }
 
 // Zeros in the first n words.
@@ -39,6 +39,6 @@ pub fn clear_matrix(m: &mut [u64], p: Parameters)
     ensures { λ _. ⌜ now (m .exit) ≡ cleared (matrixWords (settings p)) (now (m .entry)) ⌝ }
 {
     let mut zeros = [0; 16];
-    let zero = clear_state(&mut zeros);
+    let zero = clear_state(&mut zeros, 0);
     clear(m, matrix_words(p), zero);
 }

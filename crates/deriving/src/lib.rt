@@ -27,8 +27,8 @@ fn derive_accepted(
     let mut s = [0; 16];
     let ran = run_plain(&mut s, password, salt, key.len(), p, matrix);
     let between = squeeze(&mut s, key);
-    let left = clear_state(&mut s);
-    spent(ran.full + (between + left), ran.reduced, p)
+    let calls = clear_state(&mut s, between);
+    spent(ran.full + calls, ran.reduced, p)
 }
 
 // The plain derivation: fills the key, works in the used matrix and leaves zeros there.

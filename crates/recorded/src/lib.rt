@@ -37,8 +37,8 @@ fn record_accepted(
     let state = s;
     let full = finish(&mut s, ran, matrix, p);
     let between = squeeze(&mut s, key);
-    let left = clear_state(&mut s);
-    let costs = spent(full + (between + left), ran.reduced, p);
+    let calls = clear_state(&mut s, between);
+    let costs = spent(full + calls, ran.reduced, p);
     Recording { costs, state }
 }
 

@@ -61,10 +61,6 @@ pub key-after : (p : Parameters) (x : Input) (m : List ℕ) {s : List ℕ} → s
 unfolding keyOf
 key-after p x m e = ap (keyBytes plainSum (x .keyLength)) e
 
--- ---- the word of a cleared state, added to a count
-pub plus-cleared : {count n left : ℕ} → count ≡ n → left ≡ 0 → count + left ≡ n
-plus-cleared e z = omega arith
-
 -- ---- the costs: the full calls up to the last cell's, those between pieces of the key, and the reduced ones
 module _ (l : Lengths) (p : Parameters) (words : ℕ) (h : Accepted (plainChecks l p words)) {full between reduced : ℕ}
     (last : full ≡ inputBlocks l + 1) (calls : between ≡ callsBetween (l .key)) (walked : reduced ≡ reducedCost (settings p)) where
