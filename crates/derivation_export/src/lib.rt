@@ -16,7 +16,7 @@ ghost use Rattle.derivation.specs.Contracts.{Derived, Compared, Recorded};
 ghost use Rattle.walk_question.specs.Question.{walkAnswer};
 ghost use Rattle.c_answers.specs.Stored.{parameters, lengthsOf, stored as «counts-stored»};
 
-// The plain derivation: fills the key and the used matrix.
+// The plain derivation: fills the key, and leaves zeros in the used matrix.
 #[no_mangle]
 pub extern "C" fn lyra2_derive(
     password: &[u8],
@@ -38,7 +38,7 @@ pub extern "C" fn lyra2_derive(
     store_costs(deriving::derive(password, salt, p, key, matrix), counts)
 }
 
-// The check: `same` becomes 1 where the stored bytes are the key, else 0.
+// The check: `same` becomes 1 where the stored bytes are the key, else 0. The used matrix is left as zeros.
 #[no_mangle]
 pub extern "C" fn lyra2_check(
     password: &[u8],
