@@ -11,8 +11,8 @@ use std::ops::{Deref, DerefMut};
 /// More than the library's calls use of the stack.
 const STACK_BYTES: usize = 1 << 14;
 
-/// Overwrites the stack below the caller, where a call that has ended leaves what it worked on: the state, which
-/// gives the key.
+/// Overwrites the stack below the caller, where a call that has ended may leave what it worked on. The library clears
+/// its state there, which is measured and not promised, and leaves numbers of rows and columns.
 #[inline(never)]
 pub fn wipe_stack() {
     black_box(&mut [0u8; STACK_BYTES]);

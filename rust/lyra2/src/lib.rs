@@ -24,7 +24,8 @@
 //!
 //! After a derivation or a check the used words of the matrix are zero, so it can be lent to anything else at once.
 //! Key and password are the caller's to overwrite, and so are the matrix, the record and the state of a
-//! [recorded derivation](derive_recorded): they are kept for a comparison, and give the key away.
+//! [recorded derivation](derive_recorded): they are kept for a comparison, and give the key away. A call also clears
+//! its state on the stack; that is measured and not promised.
 //!
 //! # A check
 //!
