@@ -19,6 +19,7 @@
 //!
 //! assert_eq!(key[..4], [0xf0, 0x66, 0xef, 0xe4]);
 //! assert_eq!(counts.reduced, 64 * 16 * 2);
+//! assert!(matrix.iter().all(|&word| word == 0));
 //! # Ok::<(), lyra2::Refusal>(())
 //! ```
 //!
