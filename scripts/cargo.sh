@@ -20,7 +20,8 @@ cargo "${from[@]}" "$1" --manifest-path "$manifest" "${@:2}" || status=$?
 [ "$status" -ne 0 ] || exit 0
 
 # Whether it failed for want of the crates is asked apart, without the network, so that cargo itself keeps the terminal.
-reason=$(cargo --offline "${from[@]}" tree --manifest-path "$manifest" 2>&1 >/dev/null </dev/null) && exit "$status"
+[ -n "$folder" ] || from=(--offline)
+reason=$(cargo "${from[@]}" tree --manifest-path "$manifest" 2>&1 >/dev/null </dev/null) && exit "$status"
 case $folder:$reason in
 /*'(locked to '*)
     {

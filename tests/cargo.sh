@@ -44,6 +44,10 @@ cat >"$work/bin/cargo" <<'END'
 #!/bin/sh
 here=${0%/bin/cargo}
 case " $* " in
+*' --offline'*' --offline '*)
+    echo "error: the argument '--offline' cannot be used multiple times" >&2
+    exit 1
+    ;;
 *' tree '*)
     case " $* " in *' --offline '*) ;; *) echo 'cargo asks the network' >>"$here/called" ;; esac
     [ -s "$here/reason" ] || exit 0
