@@ -80,8 +80,8 @@ same 'version of lyra2.pc' "$("$program" --version)" "lyra2 $(pkg-config --modve
 [[ $(pkg-config --modversion lyra2) =~ ^[0-9]+\.[0-9]+\.[0-9]+$ ]] || { echo 'lyra2.pc has no version'; exit 1; }
 unset PKG_CONFIG_PATH
 
-# ---- the manual page: no warning, and every command that the help lists
-groff -k -man -Tutf8 -ww "$prefix/share/man/man1/lyra2.1" >"$work/page" 2>"$work/said"
+# ---- the manual page, with no word divided: no warning, and every command that the help lists
+groff -K utf8 -man -rHY=0 -Tutf8 -ww "$prefix/share/man/man1/lyra2.1" >"$work/page" 2>"$work/said"
 same 'warnings about the manual page' '' "$(cat "$work/said")"
 commands=$("$program" help | sed -nE 's/^  ([a-z][a-z-]*)(  .*)?$/\1/p')
 for command in derive check cost walk trial compare completions manual; do
