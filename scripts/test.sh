@@ -10,7 +10,7 @@ export CARGO_NET_OFFLINE=true
 # The crates that carry the promises of docs/PROMISES.md, the libraries, Rust's packages with tests, and tests/*.sh.
 crates='costs deriving checking recorded walk_question walk statements end_states derivation_export'
 libraries='derivation_export sponge_export'
-packages='bench cli derivation-link lyra2 reference sponge-link'
+packages='bench cli derivation-link lyra2 memory reference sponge-link'
 scripts='c_example c_interface counting derive permute row_starts valgrind walk'
 
 need() { # COMMAND PACKAGE
