@@ -84,20 +84,18 @@ fn all_lengths_are_kept_from_dumps_and_large_ones_ask_for_large_pages() {
     }
 }
 
+/// All are kept until the last is there, and they have all lengths in pages, so that none lies on a boundary by chance.
 #[test]
 fn the_boundary_is_a_large_page_or_an_ordinary_one() {
-    for words in LENGTHS {
-        // A second one at the same time, so that not both can lie on a boundary by chance.
-        let both = [zeros(words), zeros(words)];
-        let boundary = if words < LARGE_PAGE {
-            PAGE
-        } else {
-            8 * LARGE_PAGE
+    let odd = (0..16).map(|number| LARGE_PAGE + number * 37 * PAGE / 8);
+    let all: Vec<Memory> = LENGTHS.into_iter().chain(odd).map(zeros).collect();
+    for memory in &all {
+        let boundary = match memory.len() < LARGE_PAGE {
+            true => PAGE,
+            false => 8 * LARGE_PAGE,
         };
-        for memory in both {
-            let start = memory.as_ptr().addr();
-            assert_eq!(start % boundary, 0, "{words} words at {start:x}");
-        }
+        let start = memory.as_ptr().addr();
+        assert_eq!(start % boundary, 0, "{} words at {start:x}", memory.len());
     }
 }
 
