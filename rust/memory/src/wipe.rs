@@ -19,6 +19,8 @@ pub fn wipe_bytes(bytes: &mut [u8]) {
 /// # Safety
 ///
 /// So many bytes from `start` on may be written, and zeros are a value of whatever is read there afterwards.
+// Inlined, so that tests/freed.rs shows what a compiler does that sees the stores and the freeing together.
+#[inline]
 pub unsafe fn wipe_block(start: *mut u8, bytes: usize) {
     // SAFETY: the caller's word.
     unsafe { start.write_bytes(0, bytes) };
