@@ -9,14 +9,18 @@
  *
  *     cc -std=c99 $(pkg-config --cflags lyra2) derive_and_check.c $(pkg-config --libs lyra2) -o derive_and_check
  */
+#define _DEFAULT_SOURCE /* for madvise and MAP_ANONYMOUS, which C99 alone hides */
+
 #include "lyra2.h"
 
 #include <inttypes.h>
 #include <stdio.h>
 #include <stdlib.h>
 #include <string.h>
+#include <sys/mman.h>
 
 enum { DONE = 0, REFUSED = 1, FAILED = 2 };
+enum { LARGE_PAGE = 2 << 20 };
 
 struct inputs {
     uint8_t password[LYRA2_PASSWORD_MAX + 1]; /* one byte more than is accepted, so that nothing is cut off unseen */
@@ -97,20 +101,50 @@ static uint32_t derive_and_check(const struct inputs *in, uint8_t *key, uint64_t
     return check(in, key, matrix, matrix_words);
 }
 
-/* Lends the memory. The cost question has accepted the numbers, so the matrix's size means something. The matrix is not
- * wiped here: the library leaves zeros in it, and a refused call leaves it alone. */
+/* Memory to lend; it starts on the first boundary of a large page within its mapping. */
+struct memory {
+    void *mapping;
+    size_t mapped;
+    uint64_t *words;
+};
+
+/* Sets memory aside. Large pages make a derivation over some megabytes faster; core dumps leave it out; locked, it is not
+ * swapped out, as far as `ulimit -l` allows. What the system refuses of these three is done without. */
+static int lend(struct memory *memory, size_t bytes)
+{
+    memory->mapped = bytes + LARGE_PAGE;
+    memory->mapping = mmap(NULL, memory->mapped, PROT_READ | PROT_WRITE, MAP_PRIVATE | MAP_ANONYMOUS, -1, 0);
+    if (memory->mapping == MAP_FAILED)
+        return 0;
+    size_t past = (uintptr_t)memory->mapping % LARGE_PAGE;
+    void *start = (char *)memory->mapping + (past == 0 ? 0 : LARGE_PAGE - past);
+    (void)madvise(start, bytes, MADV_HUGEPAGE);
+    (void)madvise(start, bytes, MADV_DONTDUMP);
+    (void)mlock(start, bytes); /* last, for a page that is locked is there, and does not become a large one */
+    memory->words = start;
+    return 1;
+}
+
+/* Gives memory back, and with it the lock. It is not wiped here: the library leaves zeros in the matrix of a derivation or
+ * a check, and a refused call leaves it alone. After a recorded derivation matrix and record have to be wiped first. */
+static void give_back(struct memory *memory)
+{
+    munmap(memory->mapping, memory->mapped);
+}
+
+/* Lends the memory. The cost question has accepted the numbers, so the matrix's size means something. */
 static int run(const struct inputs *in)
 {
     size_t words = LYRA2_MATRIX_WORDS(in->rows, in->columns), bytes = words * sizeof(uint64_t);
     uint8_t key[LYRA2_KEY_MAX];
-    uint64_t *matrix = malloc(bytes);
-    if (matrix == NULL) {
+    struct memory matrix;
+    if (!lend(&matrix, bytes)) {
         fprintf(stderr, "no memory for a matrix of %zu bytes\n", bytes);
         return FAILED;
     }
-    uint32_t answer = derive_and_check(in, key, matrix, words);
+    uint32_t answer = derive_and_check(in, key, matrix.words, words);
     wipe(key, sizeof key);
-    free(matrix);
+    give_back(&matrix);
     return answer == LYRA2_ACCEPTED ? DONE : refuse(answer);
 }
 

@@ -87,8 +87,8 @@ commands=$("$program" help | sed -nE 's/^  ([a-z][a-z-]*)(  .*)?$/\1/p')
 for command in derive check cost walk trial compare completions manual; do
     grep -qx "$command" <<<"$commands" || { echo "the help does not list $command"; exit 1; }
 done
-# What is bold or underlined on a terminal has escapes around it.
-sed -i 's/\x1b\[[0-9;]*m//g' "$work/page"
+# What is bold or underlined has escapes around it, or is struck twice.
+sed -i 's/\x1b\[[0-9;]*m//g; s/.\x08//g' "$work/page"
 for command in $commands; do
     grep -qw -- "$command" "$work/page" || { echo "the manual page does not name $command"; exit 1; }
 done

@@ -1,8 +1,9 @@
 //! Lyra2 key derivation over a lent matrix.
 //!
 //! The work is done by the proved library, which `rt staticlib derivation_export` builds; this crate gives it
-//! Rust's types and adds no check and no rule of its own. No call allocates, and none can go wrong in another
-//! way than by a [`Refusal`], which leaves every lent buffer as it was.
+//! Rust's types and adds no check and no rule of its own. No operation allocates, and none can go wrong in another
+//! way than by a [`Refusal`], which leaves every lent buffer as it was. Memory comes from the caller, who may have
+//! it from [`Parameters::matrix`] and [`Parameters::record`], the only functions here that ask the system for any.
 //!
 //! # A key
 //!
@@ -13,14 +14,14 @@
 //! use lyra2::{derive, Parameters};
 //!
 //! let parameters = Parameters { time: 1, rows: 64, columns: 16 };
-//! let mut matrix = vec![0; parameters.matrix_words().expect("a few thousand words")];
+//! let mut matrix = parameters.matrix()?;
 //! let mut key = [0; 32];
 //! let counts = derive(b"password", b"saltsalt", parameters, &mut key, &mut matrix)?;
 //!
 //! assert_eq!(key[..4], [0xf0, 0x66, 0xef, 0xe4]);
 //! assert_eq!(counts.reduced, 64 * 16 * 2);
 //! assert!(matrix.iter().all(|&word| word == 0));
-//! # Ok::<(), lyra2::Refusal>(())
+//! # Ok::<(), Box<dyn std::error::Error>>(())
 //! ```
 //!
 //! After a derivation or a check the used words of the matrix are zero, so it can be lent to anything else at once.
@@ -41,6 +42,30 @@
 //! assert!(check(b"password", b"saltsalt", parameters, &stored, &mut matrix)?.same);
 //! assert!(!check(b"Password", b"saltsalt", parameters, &stored, &mut matrix)?.same);
 //! # Ok::<(), lyra2::Refusal>(())
+//! ```
+//!
+//! # Memory
+//!
+//! Any words can be lent: a `Vec`, an array, or a [`Memory`], which [`Parameters::matrix`] and [`Parameters::record`] give
+//! in the right size. For a [`Memory`] the system is asked for large pages, which make a derivation over some megabytes
+//! faster, and to keep the words from core dumps and from swapping; it serves whatever the system refuses of that. When
+//! dropped it is wiped and given back, so that a recorded derivation in it leaves nothing behind.
+//!
+//! ```
+//! use lyra2::{derive_recorded, Parameters};
+//!
+//! let parameters = Parameters { time: 1, rows: 512, columns: 64 };
+//! let (mut matrix, mut record) = (parameters.matrix()?, parameters.record()?);
+//! if !matrix.granted().locked {
+//!     eprintln!("the matrix may be swapped out: `ulimit -l` is too low for it");
+//! }
+//! let mut key = [0; 32];
+//! derive_recorded(b"password", b"saltsalt", parameters, &mut key, &mut matrix, &mut record)?;
+//!
+//! assert!(matrix.iter().any(|&word| word != 0));
+//! // Here both are wiped.
+//! drop((matrix, record));
+//! # Ok::<(), Box<dyn std::error::Error>>(())
 //! ```
 //!
 //! # A refusal
@@ -67,6 +92,7 @@ mod operations;
 mod parameters;
 mod refusal;
 
+pub use lyra2_memory::{Granted, Memory, NoMemory};
 pub use operations::{
     check, cost, derive, derive_recorded, walk, Checked, Counts, Recorded, STATE_WORDS,
 };

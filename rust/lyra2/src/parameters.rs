@@ -1,5 +1,6 @@
 //! The numbers that a call is given, their limits, and the sizes of the buffers to lend for them.
 
+use lyra2_memory::{Memory, NoMemory};
 use std::ops::RangeInclusive;
 
 /// Key lengths in bytes that are accepted.
@@ -45,6 +46,23 @@ impl Parameters {
         let column_words = row_words.checked_mul(self.columns)?;
         row_words.checked_add(column_words)
     }
+
+    /// Memory for the matrix: [`Parameters::matrix_words`] zeros.
+    ///
+    /// Numbers outside the limits may ask for any size, so it is best asked for after [`cost`](crate::cost()) has
+    /// accepted them.
+    pub fn matrix(self) -> Result<Memory, NoMemory> {
+        zeros(self.matrix_words())
+    }
+
+    /// Memory for the record: [`Parameters::record_words`] zeros, which with T = 0 are none.
+    pub fn record(self) -> Result<Memory, NoMemory> {
+        zeros(self.record_words())
+    }
+}
+
+fn zeros(words: Option<usize>) -> Result<Memory, NoMemory> {
+    Memory::zeros(words.ok_or(NoMemory { bytes: None })?)
 }
 
 /// The lengths that the cost question is about, in bytes.
