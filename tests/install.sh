@@ -89,8 +89,11 @@ for command in derive check cost walk trial compare completions manual; do
 done
 # What is bold or underlined has escapes around it, or is struck twice.
 sed -i 's/\x1b\[[0-9;]*m//g; s/.\x08//g' "$work/page"
+# Each has a heading, since its name may be a word of another's text; `help` is told of in the text.
 for command in $commands; do
-    grep -qw -- "$command" "$work/page" || { echo "the manual page does not name $command"; exit 1; }
+    heading="^ *$command\$"
+    [ "$command" != help ] || heading='lyra2 help '
+    grep -q -- "$heading" "$work/page" || { echo "the manual page does not name $command"; exit 1; }
 done
 
 # ---- completions: bash offers a command, the others are for this program
