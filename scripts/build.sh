@@ -3,7 +3,10 @@
 # scripts/derive.sh and scripts/install.sh do. What is said goes to standard error, and nothing is said where nothing is to
 # be done. A build that fails shows its whole log and ends the script with status 2.
 
+# Who sources this sets $root and uses $program.
+# shellcheck disable=SC2154
 archive=$root/target/staticlib/libderivation_export.a
+# shellcheck disable=SC2034
 program=$root/rust/target/release/lyra2
 
 # A line that cannot be written must not end a build.

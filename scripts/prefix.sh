@@ -2,6 +2,7 @@
 # What scripts/install.sh and scripts/uninstall.sh share: the prefix, and the record of what was installed. To be sourced.
 
 # Under the prefix: a line `file PATH` for each file that install has put there, `folder PATH` for each folder that it made.
+# shellcheck disable=SC2034
 record=share/doc/lyra2/installed.txt
 
 fault() { # WORDS
