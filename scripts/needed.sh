@@ -8,7 +8,9 @@ rpassword librust-rpassword-dev
 clap librust-clap-dev
 clap_derive librust-clap-derive-dev
 clap_complete librust-clap-complete-dev
-indicatif librust-indicatif-dev'
+indicatif librust-indicatif-dev
+ctrlc librust-ctrlc-dev
+rustix librust-rustix-dev'
 
 # The commands that the tests use, each with its package.
 needed_commands='b2sum coreutils

@@ -18,6 +18,7 @@ mod password;
 mod progress;
 mod reading;
 mod secret;
+mod terminal;
 mod usage;
 
 use failure::Failure;

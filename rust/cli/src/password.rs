@@ -3,6 +3,7 @@
 use crate::failure::Failure;
 use crate::reading::{leave_out_newline, read_bytes, read_file};
 use crate::secret::Secret;
+use crate::terminal;
 use lyra2::PASSWORD_LENGTHS;
 use std::fs::File;
 use std::io::{self, ErrorKind, IsTerminal};
@@ -42,6 +43,7 @@ fn read_standard_input() -> io::Result<Secret> {
 }
 
 fn type_in(typed: Typed) -> Result<Secret, Failure> {
+    terminal::restore_if_interrupted()?;
     let password = ask("Password: ")?;
     if typed == Typed::Twice && *ask("The same again: ")? != *password {
         return Err(Failure::usage("two different passwords were typed"));

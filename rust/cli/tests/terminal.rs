@@ -65,6 +65,21 @@ fn the_terminal_shows_again_what_is_typed() {
     assert!(!shown.contains("secret"), "{shown}");
 }
 
+/// The shell goes on after an interrupt here, as one at a console does, and not all shells put a terminal right.
+#[test]
+fn an_interrupt_leaves_a_terminal_that_shows_what_is_typed() {
+    let mut terminal = start(&format!(
+        "trap : INT; lyra2 {DERIVE}; echo status $?; read last"
+    ));
+    terminal.wait_for(FIRST);
+    terminal.type_in(b"half a pass\x03");
+    terminal.wait_for("status 130");
+    terminal.type_in(b"after\n");
+    let (_, shown) = terminal.end();
+    assert!(shown.contains("after"), "{shown}");
+    assert!(!shown.contains("half"), "{shown}");
+}
+
 #[test]
 fn two_different_passwords_make_no_key() {
     let lines: [(&str, &[u8]); 2] = [(FIRST, b"secret\n"), (SECOND, b"Secret\n")];
