@@ -66,11 +66,13 @@ tell_compiling() {
     local line told=''
     while IFS= read -r line; do
         case $line in
-        *' Blocking '* | *' Compiling '* | *' Downloaded '* | *' Downloading '* | *' Updating '*) ;;
+        *' Compiling '* | *' Downloaded '* | *' Downloading '* | *' Updating '*)
+            [ -n "$told" ] || say 'building the program, which takes about a minute the first time'
+            told=yes
+            ;;
+        *' Blocking '*) ;;
         *) continue ;;
         esac
-        [ -n "$told" ] || say 'building the program, which takes about a minute the first time'
-        told=yes
         [ ! -t 2 ] || say "$line"
     done
 }

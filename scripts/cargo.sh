@@ -23,10 +23,10 @@ cargo "${from[@]}" "$1" --manifest-path "$manifest" "${@:2}" || status=$?
 [ -n "$folder" ] || from=(--offline)
 reason=$(cargo "${from[@]}" tree --manifest-path "$manifest" 2>&1 >/dev/null </dev/null) && exit "$status"
 case $folder:$reason in
-/*'(locked to '*)
+/*'(locked to '* | *'changed between lock files'*)
     {
-        echo "rust/Cargo.lock names other versions of the crates than $folder has."
-        echo "'scripts/cargo.sh update' writes the versions of this machine into it; 'git checkout rust/Cargo.lock' takes that back."
+        echo "rust/Cargo.lock was written for other crates than ${folder:-the registry} has now. It is of this machine alone and not part of the"
+        echo 'repository: remove it, and cargo writes it anew.'
     } >&2
     ;;
 *'no matching package'* | *'failed to get '* | *'failed to download'* | *'failed to load source'* | *'failed to select a version'*)

@@ -12,16 +12,19 @@ same() { # WHAT EXPECTED FOUND
     [ "$2" = "$3" ] || { echo "$1: expected '$2', found '$3'"; exit 1; }
 }
 
-# ---- the lists: what rust/*/Cargo.toml take from elsewhere is in needed.sh, and DEPENDENCIES.md has the locked versions
+# ---- the lists: what rust/*/Cargo.toml take from elsewhere is in needed.sh, and DEPENDENCIES.md has the versions of Debian 12
 outside=$(awk '
     /^\[/ { inside = /dependencies\]$/ }
     inside && /^[a-z]/ && !/path *=/ { name = $1; sub(/[.=].*/, "", name); print name }' rust/Cargo.toml rust/*/Cargo.toml | sort -u)
 for crate in $outside; do
     grep -q "^$crate " <<<"$needed_crates" || [ -d "rust/$crate" ] || { echo "scripts/needed.sh does not name $crate"; exit 1; }
 done
+folder=
+! grep -qx 'VERSION_ID="12"' /etc/os-release || folder=$(crates_folder)
 while read -r crate _; do
-    version=$(grep -A 1 "^name = \"$crate\"\$" rust/Cargo.lock | sed -n 's/^version = "\(.*\)"$/\1/p')
-    grep -q "^| $crate | ${version:-[0-9]}" docs/DEPENDENCIES.md || { echo "docs/DEPENDENCIES.md does not have $crate $version"; exit 1; }
+    version='[0-9]'
+    [ -z "$folder" ] || version=$(cd "$folder" && for name in "$crate"-[0-9]*; do echo "${name#"$crate-"}"; done)
+    grep -q "^| $crate | $version" docs/DEPENDENCIES.md || { echo "docs/DEPENDENCIES.md does not have $crate $version"; exit 1; }
 done <<<"$needed_crates"
 
 # ---- a made-up machine: $work/installed are the packages, $work/status is how cargo ends, $work/reason what it says offline
@@ -115,14 +118,23 @@ location searched: directory source `/a/registry` (which is replacing registry `
 printf '%s\n' "$locked" >"$work/reason"
 call build
 same 'status with other versions' 101 "$status"
-grep -q '/a/registry has' "$work/said" && grep -q 'scripts/cargo.sh update' "$work/said" ||
-    { cat "$work/said"; echo 'no word what to do about other versions'; exit 1; }
-! grep -q 'apt-get' "$work/said" || { echo 'packages are asked for that are there'; exit 1; }
+lock_is_told() { # WHERE
+    grep -q "other crates than $1 has" "$work/said" && grep -q 'remove it' "$work/said" ||
+        { cat "$work/said"; echo 'no word what to do about the lock file'; exit 1; }
+    ! grep -q 'apt-get' "$work/said" || { echo 'packages are asked for that are there'; exit 1; }
+}
+lock_is_told /a/registry
 
 echo 'error: checksum for `zeroize v1.5.7` changed between lock files' >"$work/reason"
 call build
 same 'status with another checksum' 101 "$status"
-same 'words about another checksum' '' "$(cat "$work/said")"
+lock_is_told /a/registry
+: >"$work/installed"
+call build
+lock_is_told 'the registry'
+echo 'error: a file is damaged' >"$work/reason"
+call build
+same 'words about something else' '' "$(cat "$work/said")"
 
 call
 same 'status without arguments' 2 "$status"
