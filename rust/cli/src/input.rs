@@ -53,13 +53,8 @@ impl Input {
 
     /// The plain derivation.
     pub fn derive(&self, key: &mut [u8], matrix: &mut [u64]) -> Result<Counts, Refusal> {
-        let Input {
-            password,
-            salt,
-            parameters,
-        } = self;
-        self.shown(key.len(), || {
-            lyra2::derive(password, salt, *parameters, key, matrix)
+        self.shown(key.len(), |password, salt, parameters| {
+            lyra2::derive(password, salt, parameters, key, matrix)
         })
     }
 
@@ -70,33 +65,23 @@ impl Input {
         matrix: &mut [u64],
         record: &mut [u64],
     ) -> Result<Recorded, Refusal> {
-        let Input {
-            password,
-            salt,
-            parameters,
-        } = self;
-        self.shown(key.len(), || {
-            lyra2::derive_recorded(password, salt, *parameters, key, matrix, record)
+        self.shown(key.len(), |password, salt, parameters| {
+            lyra2::derive_recorded(password, salt, parameters, key, matrix, record)
         })
     }
 
     /// The check.
     pub fn check(&self, stored: &[u8], matrix: &mut [u64]) -> Result<Checked, Refusal> {
-        let Input {
-            password,
-            salt,
-            parameters,
-        } = self;
-        self.shown(stored.len(), || {
-            lyra2::check(password, salt, *parameters, stored, matrix)
+        self.shown(stored.len(), |password, salt, parameters| {
+            lyra2::check(password, salt, parameters, stored, matrix)
         })
     }
 
-    /// Makes a call, shows meanwhile how far it is, and wipes the stack that it used.
+    /// Makes a call for a key of this length, shows meanwhile how far it is, and wipes the stack that it used.
     fn shown<A>(
         &self,
         key: usize,
-        call: impl FnOnce() -> Result<A, Refusal>,
+        call: impl FnOnce(&[u8], &[u8], Parameters) -> Result<A, Refusal>,
     ) -> Result<A, Refusal> {
         let counts = self.ask_cost(key)?;
         let seconds = || match counts.reduced {
@@ -104,7 +89,7 @@ impl Input {
             _ => estimate::seconds(self.parameters, counts).ok(),
         };
         progress::by_time("deriving", seconds, || {
-            let answer = call();
+            let answer = call(&self.password, &self.salt, self.parameters);
             wipe_stack();
             answer
         })
