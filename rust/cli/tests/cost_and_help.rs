@@ -100,6 +100,41 @@ fn the_help_names_the_options_that_there_are() {
     }
 }
 
+/// The names of the options that a help has.
+fn options_of(help: &str) -> Vec<&str> {
+    let lines = help.lines().map(str::trim_start);
+    let options = lines.filter(|line| line.starts_with("--"));
+    options.filter_map(|line| line.split(' ').next()).collect()
+}
+
+#[test]
+fn the_manual_page_has_what_the_help_has() {
+    let page = lyra2(&["manual"], b"").result().replace("\\-", "-");
+    let parts: Vec<&str> = page.split("\n.SS ").collect();
+    assert_eq!(parts.len(), 1 + COMMANDS.len());
+    for (command, part) in COMMANDS.into_iter().zip(&parts[1..]) {
+        assert!(part.starts_with(&format!("{command}\n")), "{part}");
+        let help = lyra2(&["help", command], b"").result();
+        let summary = help.lines().next().expect("a first line");
+        assert!(part.contains(&format!("\n{summary}.\n")), "{part}");
+        for option in options_of(&help) {
+            assert!(part.contains(&format!("\n\\fB{option}\\fR ")), "{option}");
+        }
+    }
+    assert!(options_of(&lyra2(&["help", "check"], b"").result()).contains(&"--key-file"));
+}
+
+#[test]
+fn completions_name_every_command() {
+    for shell in ["bash", "elvish", "fish", "powershell", "zsh"] {
+        let script = lyra2(&["completions", shell], b"").result();
+        for command in COMMANDS {
+            assert!(script.contains(command), "{shell}: {command}");
+        }
+        assert!(script.contains("key-length"), "{shell}");
+    }
+}
+
 #[test]
 fn help_is_given_before_anything_is_missed() {
     let help = lyra2(&["derive", "--help"], b"").result();

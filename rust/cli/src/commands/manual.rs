@@ -2,8 +2,8 @@
 
 use crate::help;
 use crate::outcome::Outcome;
+use clap::builder::StyledStr;
 use clap::{Arg, Args, Command};
-use std::fmt::Write;
 
 /// Print the manual page in the form that `man` reads
 #[derive(Args)]
@@ -14,87 +14,78 @@ impl Manual {
     /// The page for the program with all its commands.
     pub fn run(self, mut program: Command) -> Outcome {
         program.build();
-        Outcome::result(page(&mut program))
+        Outcome::result(page(&mut program).join("\n") + "\n")
     }
 }
 
-fn page(program: &mut Command) -> String {
+/// The lines of the page. The date is left empty, so that the page is the same whenever it is made.
+fn page(program: &mut Command) -> Vec<String> {
     let name = program.get_name().to_string();
-    let version = program.get_version().unwrap_or_default();
-    let mut page = format!(
-        ".TH {} 1 \"\" \"{name} {}\" \"User Commands\"\n",
-        name.to_uppercase(),
-        escaped(version)
+    let version = escaped(program.get_version().unwrap_or_default());
+    let about = plain(program.get_about());
+    let title = name.to_uppercase();
+    let mut lines = vec![
+        format!(".TH {title} 1 \"\" \"{name} {version}\" \"User Commands\""),
+        ".SH NAME".to_string(),
+        format!("{name} \\- {}", about.trim_end_matches('.')),
+        ".SH SYNOPSIS".to_string(),
+        format!(".B {name}\n.I COMMAND\n.RI [ ARGUMENT ]..."),
+        ".SH DESCRIPTION".to_string(),
+    ];
+    lines.extend(paragraphs(program.get_after_help()));
+    lines.push(".SH COMMANDS".to_string());
+    let commands = program.get_subcommands_mut();
+    lines.extend(
+        commands
+            .filter(|command| command.get_name() != "help")
+            .flat_map(command_lines),
     );
-    let about = styled(program.get_about());
-    let first = about.trim_end_matches('.');
-    let _ = write!(page, ".SH NAME\n{name} \\- {}\n", escaped(first));
-    let _ = write!(
-        page,
-        ".SH SYNOPSIS\n.B {name}\n.I COMMAND\n.RI [ ARGUMENT ]...\n"
-    );
-    page += ".SH DESCRIPTION\n";
-    add_paragraphs(&mut page, &styled(program.get_after_help()));
-    page += ".SH COMMANDS\n";
-    for command in program
-        .get_subcommands_mut()
-        .filter(|command| command.get_name() != "help")
-    {
-        add_command(&mut page, command);
-    }
-    page
+    lines
 }
 
-/// What a command does, how it is called, and its operands and options.
-fn add_command(page: &mut String, command: &mut Command) {
+/// What a command does, how it is called, its operands and options, and what else its help says.
+fn command_lines(command: &mut Command) -> Vec<String> {
     let usage = command.render_usage().to_string();
-    let usage = usage.trim_start_matches("Usage: ");
-    let _ = write!(page, ".SS {}\n", escaped(command.get_name()));
-    let _ = write!(page, "{}.\n", escaped(&styled(command.get_about())));
-    let _ = write!(page, ".PP\n\\fB{}\\fR\n", escaped(usage));
-    for argument in command
-        .get_arguments()
-        .filter(|argument| argument.get_id() != "help")
-    {
-        add_argument(page, argument);
-    }
-    add_paragraphs(page, &styled(command.get_after_help()));
-}
-
-fn add_argument(page: &mut String, argument: &Arg) {
-    let value = argument
-        .get_value_names()
-        .map_or("", |names| names[0].as_str());
-    let tag = match argument.get_long() {
-        Some(long) => format!(
-            "\\fB{}\\fR \\fI{}\\fR",
-            escaped(&format!("--{long}")),
-            escaped(value)
-        ),
-        None => format!("\\fI{}\\fR", escaped(value)),
-    };
-    let _ = write!(
-        page,
-        ".TP\n{tag}\n{}\n",
-        escaped(&styled(argument.get_help()))
+    let usage = escaped(usage.trim_start_matches("Usage: "));
+    let mut lines = vec![
+        format!(".SS {}", escaped(command.get_name())),
+        format!("{}.", plain(command.get_about())),
+        format!(".PP\n\\fB{usage}\\fR"),
+    ];
+    let arguments = command.get_arguments();
+    lines.extend(
+        arguments
+            .filter(|argument| argument.get_id() != "help")
+            .map(argument_lines),
     );
+    lines.extend(paragraphs(command.get_after_help()));
+    lines
 }
 
-fn add_paragraphs(page: &mut String, text: &str) {
-    for paragraph in text.split("\n\n") {
-        let _ = write!(page, ".PP\n{}\n", escaped(paragraph));
-    }
+fn argument_lines(argument: &Arg) -> String {
+    let names = argument.get_value_names().unwrap_or_default();
+    let value = escaped(names.first().map_or("", |name| name.as_str()));
+    let option = argument.get_long().map_or(String::new(), |long| {
+        format!("\\fB{}\\fR ", escaped(&format!("--{long}")))
+    });
+    let help = plain(argument.get_help());
+    format!(".TP\n{option}\\fI{value}\\fR\n{help}")
 }
 
-fn styled(text: Option<&clap::builder::StyledStr>) -> String {
-    text.map_or(String::new(), |text| text.to_string())
+fn paragraphs(text: Option<&StyledStr>) -> Vec<String> {
+    let text = plain(text);
+    let paragraphs = text.split("\n\n");
+    paragraphs
+        .map(|paragraph| format!(".PP\n{paragraph}"))
+        .collect()
 }
 
-/// A text as roff takes it: a backslash and a dash have a meaning there, and so has a dot or a quote at a line's start.
+fn plain(text: Option<&StyledStr>) -> String {
+    escaped(&text.map_or(String::new(), |text| text.to_string()))
+}
+
+/// A text as roff takes it, where a backslash and a dash have a meaning. No line of the help starts with a dot or a
+/// quote, which have one too.
 fn escaped(text: &str) -> String {
-    let text = text.replace('\\', "\\e").replace('-', "\\-");
-    match text.starts_with(['.', '\'']) {
-        true => format!("\\&{text}"),
-        false => text,
-    }
+    text.replace('\\', "\\e").replace('-', "\\-")
 }
