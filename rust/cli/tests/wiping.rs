@@ -1,7 +1,7 @@
-//! What is left of the password, the key and the matrix in the program's memory when it prints the key's text.
+//! What is left of the password, the key, the state and the matrix in the program's memory when it prints its result.
 //!
 //! The program's output goes to a pipe that is full, so that it waits there with its result in hand, and its memory
-//! is searched meanwhile. The key's text must be found, which shows that the search sees something.
+//! is searched meanwhile. The result's text must be found, which shows that the search sees something.
 
 mod common;
 
@@ -14,6 +14,9 @@ use std::process::Stdio;
 use std::time::{Duration, Instant};
 
 const PASSWORD: &[u8] = b"a password to search for";
+/// Words of the matrix and of the record with T = 1, R = 16 and C = 4.
+const MATRIX_WORDS: usize = 12 * 16 * 4;
+const RECORD_WORDS: usize = 16 * (2 + 2 * 4);
 /// What a pipe holds on Linux.
 const PIPE_BYTES: usize = 1 << 16;
 /// How long the program may take to come to its output.
@@ -43,21 +46,32 @@ fn holds(memory: &[Vec<u8>], wanted: &[u8]) -> bool {
     memory.iter().any(is_in)
 }
 
-/// The key, and the words of the end matrix as bytes. The recorded derivation keeps the matrix that the plain one has
-/// before it wipes it.
-fn due() -> ([u8; 64], Vec<u8>) {
-    let inputs = Inputs {
-        password: PASSWORD,
-        salt: b"saltsalt",
-        t: 1,
-        r: 16,
-        c: 4,
-    };
-    let (mut key, mut matrix) = ([0; 64], [0; 12 * 16 * 4]);
-    let mut record = [0; 16 * (2 + 2 * 4)];
-    derive_recorded(&inputs, &mut key, &mut matrix, &mut record).expect("no check refuses");
-    let bytes = matrix.iter().flat_map(|word: &u64| word.to_le_bytes());
-    (key, bytes.collect())
+/// What a derivation works on and gives, as bytes. The recorded one keeps the matrix that the plain one wipes.
+struct Due {
+    key: [u8; 64],
+    state: Vec<u8>,
+    matrix: Vec<u8>,
+}
+
+impl Due {
+    fn new() -> Due {
+        let inputs = Inputs {
+            password: PASSWORD,
+            salt: b"saltsalt",
+            t: 1,
+            r: 16,
+            c: 4,
+        };
+        let (mut key, mut matrix) = ([0; 64], [0; MATRIX_WORDS]);
+        let recorded = derive_recorded(&inputs, &mut key, &mut matrix, &mut [0; RECORD_WORDS]);
+        let state = recorded.expect("no check refuses").state;
+        let bytes = |words: &[u64]| words.iter().flat_map(|word| word.to_le_bytes()).collect();
+        Due {
+            key,
+            state: bytes(&state),
+            matrix: bytes(&matrix),
+        }
+    }
 }
 
 /// A pipe that is full as long as its reader is kept.
@@ -67,43 +81,45 @@ fn full_pipe() -> (PipeReader, PipeWriter) {
     (reader, writer)
 }
 
-fn derive(options: &str) -> String {
+/// The arguments of a command that derives.
+fn line(command: &str, options: &str) -> String {
     let costs = "--time 1 --rows 16 --columns 4 --key-length 64";
-    format!("derive --salt {} {costs} {options}", hex(b"saltsalt"))
+    format!("{command} --salt {} {costs} {options}", hex(b"saltsalt"))
 }
 
-/// Runs `derive` into a full pipe and returns what is left in its memory.
-fn left_by(options: &str, input: &[u8]) -> Vec<&'static str> {
+/// Runs a command into a full pipe and returns what is left in its memory when it prints this text.
+fn left_by(line: &str, input: &[u8], text: &str) -> Vec<&'static str> {
     let (reader, writer) = full_pipe();
     let mut program = command();
     program
-        .args(words(&derive(options)))
+        .args(words(line))
         .stdin(Stdio::piped())
         .stdout(writer);
     let mut child = program.spawn().expect("the program starts");
     let mut pipe = child.stdin.take().expect("a pipe");
     pipe.write_all(input).expect("the program reads");
     drop(pipe);
-    let left = traces_left(child.id());
+    let left = traces_left(child.id(), text);
     child.kill().expect("a process of ours");
     child.wait().expect("the program ends");
     drop(reader);
     left
 }
 
-/// The names of the traces that stay in the memory of a process while it holds the key's text.
-fn traces_left(process: u32) -> Vec<&'static str> {
-    let (key, matrix) = due();
-    let text = hex(&key);
+/// The names of the traces that stay in the memory of a process while it holds the text that it prints.
+fn traces_left(process: u32, text: &str) -> Vec<&'static str> {
+    let Due { key, state, matrix } = Due::new();
     // The library holds what it works on in words, so a part of the password or the key is searched for.
     let traces = [
         ("the password", &PASSWORD[..16]),
         ("the key", &key[..16]),
+        ("the state's start", &state[..24]),
+        ("the state's end", &state[state.len() - 24..]),
         ("the matrix's start", &matrix[..24]),
         ("the matrix's end", &matrix[matrix.len() - 24..]),
     ];
     let began = Instant::now();
-    let mut left = vec!["no key"];
+    let mut left = vec!["no text"];
     while !left.is_empty() && began.elapsed() < PATIENCE {
         std::thread::sleep(Duration::from_millis(50));
         let memory = memory(process);
@@ -117,16 +133,31 @@ fn traces_left(process: u32) -> Vec<&'static str> {
 
 const NOTHING: [&str; 0] = [];
 
+fn key_text() -> String {
+    hex(&Due::new().key)
+}
+
 #[test]
 fn of_a_password_from_standard_input_nothing_is_left() {
-    assert_eq!(left_by("", PASSWORD), NOTHING);
+    let line = line("derive", "");
+    assert_eq!(left_by(&line, PASSWORD, &key_text()), NOTHING);
 }
 
 #[test]
 fn of_a_password_from_a_file_nothing_is_left() {
     let file = TemporaryFile::holding(PASSWORD);
-    let options = format!("--password-file {}", file.name());
-    assert_eq!(left_by(&options, b""), NOTHING);
+    let line = line("derive", &format!("--password-file {}", file.name()));
+    assert_eq!(left_by(&line, b"", &key_text()), NOTHING);
+}
+
+/// A trial keeps state and matrix, until they are in its file.
+#[test]
+fn of_a_trial_nothing_is_left() {
+    let file = TemporaryFile::new();
+    let line = line("trial", &format!("--output {}", file.name()));
+    let bytes = 8 * (9 + 16 + MATRIX_WORDS + RECORD_WORDS + 1);
+    let text = format!("{bytes} bytes, checksum ");
+    assert_eq!(left_by(&line, PASSWORD, &text), NOTHING);
 }
 
 /// The shell says its number and becomes the program, whose output is the full pipe.
@@ -134,8 +165,9 @@ fn of_a_password_from_a_file_nothing_is_left() {
 fn of_a_typed_password_nothing_is_left() {
     let (reader, writer) = full_pipe();
     let program = env!("CARGO_BIN_EXE_lyra2");
-    let line = format!("echo \"<$$>\"; exec '{program}' {} >&3", derive(""));
-    let mut terminal = Terminal::start(&line, Stdio::from(writer));
+    let line = line("derive", ">&3");
+    let command = format!("echo \"<$$>\"; exec '{program}' {line}");
+    let mut terminal = Terminal::start(&command, Stdio::from(writer));
     for prompt in ["Password: ", "The same again: "] {
         terminal.wait_for(prompt);
         terminal.type_in(&[PASSWORD, b"\n"].concat());
@@ -144,6 +176,6 @@ fn of_a_typed_password_nothing_is_left() {
     let (_, number) = shown.split_once('<').expect("a number");
     let (number, _) = number.split_once('>').expect("a number");
     let process = number.parse().expect("a number");
-    assert_eq!(traces_left(process), NOTHING);
+    assert_eq!(traces_left(process, &key_text()), NOTHING);
     drop((terminal, reader));
 }

@@ -3,11 +3,11 @@
 use crate::end_state::replacement::Replacement;
 use crate::end_state::{write, Header};
 use crate::failure::Failure;
-use crate::input::InputOptions;
+use crate::input::{Input, InputOptions};
 use crate::options::KeyLengthOption;
 use crate::outcome::Outcome;
 use crate::password::Typed;
-use crate::secret::zeros;
+use crate::secret::{wipe_stack, zeros};
 use crate::{help, memory, progress};
 use clap::Args;
 use std::path::PathBuf;
@@ -38,10 +38,21 @@ pub struct Trial {
 
 impl Trial {
     pub fn run(self) -> Result<Outcome, Failure> {
-        let key_length = self.key.key_length;
         let input = self.input.read(Typed::Twice)?;
-        input.ask_cost(key_length)?;
-        let parameters = input.parameters;
+        input.ask_cost(self.key.key_length)?;
+        let written = self.derive_and_write(input);
+        // The end state lay there.
+        wipe_stack();
+        let (bytes, sum) = written?;
+        Ok(Outcome::result(format!(
+            "{bytes} bytes, checksum {sum:016x}\n"
+        )))
+    }
+
+    /// Returns the file's length and checksum. It is a call of its own, whose part of the stack can be wiped.
+    #[inline(never)]
+    fn derive_and_write(&self, input: Input) -> Result<(u64, u64), Failure> {
+        let (parameters, key_length) = (input.parameters, self.key.key_length);
         let mut key = zeros(key_length);
         let mut matrix = memory::matrix(parameters)?;
         let mut record = memory::record(parameters)?;
@@ -60,8 +71,6 @@ impl Trial {
         let sum =
             write::write(file, &header, &recorded.state, &matrix, &record).map_err(of_path)?;
         output.put().map_err(of_path)?;
-        Ok(Outcome::result(format!(
-            "{bytes} bytes, checksum {sum:016x}\n"
-        )))
+        Ok((bytes, sum))
     }
 }
