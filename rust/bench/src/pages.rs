@@ -76,19 +76,19 @@ pub fn print(programs: &[Program], quick: bool) {
         print!("{}", derivations(inputs, &programs, derived));
     }
     let once: Vec<_> = measured.into_iter().map(|times| times.once).collect();
-    println!("{ONCE}\n{}", callers(&shapes, &once));
+    println!("{ONCE}");
+    print!("{}", callers(&shapes, &once));
 }
 
 /// A line of Markdown on what the system is set to, and on what it granted for the largest of the shapes.
 pub fn description() -> String {
     let setting = std::fs::read_to_string("/sys/kernel/mm/transparent_hugepage/enabled");
     let largest = inputs(16_384, 256);
-    let granted = zeros(&largest).granted();
-    let words = words(granted);
     format!(
-        "- large pages: set to {}; for {} MiB {words}\n",
+        "- large pages: set to {}; granted for {} MiB: {}\n",
         chosen(&setting.unwrap_or_default()),
-        mebibytes(&largest)
+        mebibytes(&largest),
+        words(zeros(&largest).granted())
     )
 }
 
@@ -108,7 +108,7 @@ pub fn words(granted: Granted) -> String {
     ];
     let yes_or_no = |granted| if granted { "yes" } else { "no" };
     fields
-        .map(|(name, granted)| format!("{name}: {}", yes_or_no(granted)))
+        .map(|(name, granted)| format!("{name} {}", yes_or_no(granted)))
         .join(", ")
 }
 

@@ -244,6 +244,6 @@ fn the_systems_setting_and_what_it_granted_are_words() {
         kept_from_dumps: true,
         locked: false,
     };
-    let due = "large pages: yes, kept from core dumps: yes, locked: no";
+    let due = "large pages yes, kept from core dumps yes, locked no";
     assert_eq!(pages::words(granted), due);
 }
