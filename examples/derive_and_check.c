@@ -104,8 +104,8 @@ struct memory {
     uint64_t *words;
 };
 
-/* Sets memory aside. Large pages make a derivation over some megabytes faster; core dumps leave it out; locked, it is not
- * swapped out, as far as `ulimit -l` allows. What the system refuses of these three is done without. */
+/* Sets memory aside. Large pages make a derivation over some megabytes faster; core dumps leave it out; locked, as far
+ * as `ulimit -l` allows, it is not swapped out. What the system refuses of these three is done without. */
 static int lend(struct memory *memory, size_t bytes)
 {
     memory->mapped = bytes + LARGE_PAGE;
@@ -121,8 +121,8 @@ static int lend(struct memory *memory, size_t bytes)
     return 1;
 }
 
-/* Gives memory back, and with it the lock. It is not wiped here: the library leaves zeros in the matrix of a derivation or
- * a check, and a refused call leaves it alone. After a recorded derivation matrix and record have to be wiped first. */
+/* Gives memory back, and with it the lock. It is not wiped here: the library leaves zeros in the matrix of a derivation
+ * or a check, and a refused call leaves it alone. After a recorded derivation matrix and record have to be wiped. */
 static void give_back(struct memory *memory)
 {
     munmap(memory->mapping, memory->mapped);

@@ -1,5 +1,5 @@
-//! What the benchmark writes: the picture is well-formed and inside its frame, the tables on pages have the numbers that
-//! were measured, and dates are right.
+//! What the benchmark writes: the picture is well-formed and inside its frame, the tables on pages have the numbers
+//! that were measured, and dates are right.
 
 use bench::machine::day;
 use bench::measure::Times;
