@@ -116,7 +116,7 @@ static int lend(struct memory *memory, size_t bytes)
     void *start = (char *)memory->mapping + (past == 0 ? 0 : LARGE_PAGE - past);
     (void)madvise(start, bytes, MADV_HUGEPAGE);
     (void)madvise(start, bytes, MADV_DONTDUMP);
-    (void)mlock(start, bytes); /* last, for a page that is locked is there, and does not become a large one */
+    (void)mlock(start, bytes); /* last, for this fetches the pages, which should be large ones from the start */
     memory->words = start;
     return 1;
 }
