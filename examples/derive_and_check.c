@@ -4,6 +4,10 @@
  *
  *     cc -std=c99 -Iinclude examples/derive_and_check.c target/staticlib/libderivation_export.a -o derive_and_check
  *     printf 'correct horse' | ./derive_and_check 'salt of 16 bytes' 1 256 64 32
+ *
+ * Over an installed library the first of these is
+ *
+ *     cc -std=c99 $(pkg-config --cflags lyra2) derive_and_check.c $(pkg-config --libs lyra2) -o derive_and_check
  */
 #define _DEFAULT_SOURCE /* for madvise and MAP_ANONYMOUS, which C99 alone hides */
 

@@ -1,5 +1,6 @@
 /*
- * Lyra2 key derivation: the C interface of the proved library (C99, C++11; link libderivation_export.a).
+ * Lyra2 key derivation: the C interface of the proved library (C99, C++11; link libderivation_export.a, which is
+ * installed as liblyra2.a).
  *
  * Answer        Every call returns LYRA2_ACCEPTED or the number of a refusal. Of several that apply it is the first in
  *               the call's order, which enum lyra2_refusal gives.

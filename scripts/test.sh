@@ -4,31 +4,31 @@
 # is named here and has not run, makes the exit status 1.
 set -u
 cd "$(dirname "$0")/.." || exit 2
-export CARGO_NET_OFFLINE=true
 . scripts/counting.sh || exit 2
+. scripts/needed.sh || exit 2
 
 # The crates that carry the promises of docs/PROMISES.md, the libraries, Rust's packages with tests, and tests/*.sh.
 crates='costs deriving checking recorded walk_question walk statements end_states derivation_export'
 libraries='derivation_export sponge_export'
 packages='bench cli derivation-link lyra2 memory reference sponge-link'
-scripts='c_example c_interface counting derive permute row_starts valgrind walk'
+scripts='build c_example c_interface cargo counting derive install permute row_starts valgrind walk'
 
-need() { # COMMAND PACKAGE
-    command -v "$1" >/dev/null 2>&1 && return
-    echo "installing $2"
-    if [ "$(id -u)" -eq 0 ]; then
-        apt-get install -y -q "$2" >/dev/null 2>&1 || { apt-get update -q >/dev/null 2>&1 && apt-get install -y -q "$2" >/dev/null; }
-    fi
-    command -v "$1" >/dev/null 2>&1 || { echo "$1 is missing, of Debian's package $2"; exit 2; }
-}
-
-need b2sum coreutils
-need cc gcc
-need script bsdutils
-need g++ g++
-need valgrind valgrind
+# What is missing is installed in one go, where that can be done.
+missing=$(missing_command_packages; missing_crate_packages)
+if [ -n "$missing" ] && [ "$(id -u)" -eq 0 ] && command -v apt-get >/dev/null 2>&1; then
+    # The packages are words of their own.
+    # shellcheck disable=SC2206
+    packages_missing=($missing)
+    echo "installing ${packages_missing[*]}"
+    apt-get install -y -q "${packages_missing[@]}" >/dev/null 2>&1 ||
+        { apt-get update -q >/dev/null 2>&1 && apt-get install -y -q "${packages_missing[@]}" >/dev/null; }
+fi
+missing=$(missing_command_packages | tr '\n' ' ')
+[ -z "$missing" ] || { echo "commands are missing; in Debian root gets them with: apt-get install ${missing% }"; exit 2; }
 command -v rt >/dev/null 2>&1 || { echo "rt, of the Rattle kit, is missing"; exit 2; }
 command -v cargo >/dev/null 2>&1 || { echo "cargo is missing"; exit 2; }
+# Without Debian's packages the crates can still come from the registry; without either, that is told before the proofs.
+scripts/cargo.sh fetch --quiet || exit 2
 work=$(mktemp -d) || exit 2
 log=$work/log
 trap 'rm -rf "$work"' EXIT
@@ -59,7 +59,7 @@ for library in $libraries; do
 done
 step "the layout of the Rust files" cargo fmt --all --check --manifest-path rust/Cargo.toml
 run_scripts &
-run "$log" cargo test --offline --no-fail-fast --manifest-path rust/Cargo.toml
+run "$log" scripts/cargo.sh test --no-fail-fast
 count_rust $? "$log" "$packages"
 
 # ---- beside them: what the README shows, the walk program, the C interface, and how all this is counted

@@ -1,6 +1,6 @@
 #!/usr/bin/env bash
 # The README's first command prints the key that the README shows, and hands arguments, standard input and files on to the
-# program; at a terminal the program asks for one line.
+# program. rust/cli/tests/terminal.rs types at a terminal.
 set -eu
 root=$(cd "$(dirname "$0")/.." && pwd)
 derive=$root/scripts/derive.sh
@@ -34,17 +34,3 @@ same 'the right password' yes "$("$derive" check $costs --key-file key <line)"
 same 'status of yes' 0 "$(status "$derive" check $costs --key-file key <line)"
 same 'status of no' 1 "$(status "$derive" check $costs --key-file key <other)"
 same 'status of a missing file' 2 "$(status "$derive" check $costs --key-file missing <line)"
-
-# ---- a terminal
-program=$root/rust/target/release/lyra2
-at_terminal() { # COMMAND, which reads what is typed from standard input
-    timeout 20 script -qec "$1" /dev/null | tr -d '\r'
-}
-typed=$(printf 'correct horse battery staple\nnext line\n' | at_terminal "'$program' derive $costs --key-length 32; head -n 1")
-grep -qF 'Password (it will be seen): ' <<<"$typed" || { echo "no prompt: $typed"; exit 1; }
-grep -qF "$shown" <<<"$typed" || { echo "another key at a terminal: $typed"; exit 1; }
-same 'the line after the password' 'next line' "$(tail -n 1 <<<"$typed")"
-# A line that is too long is read to its end, so that the shell gets nothing of it.
-long=$({ head -c 2000 /dev/zero | tr '\0' p; printf '\nnext line\n'; } | at_terminal "'$program' derive $costs --key-length 32; head -n 1")
-grep -qF 'lyra2 derive: refused 2: ' <<<"$long" || { echo "a long line is taken: $long"; exit 1; }
-same 'the line after a long one' 'next line' "$(tail -n 1 <<<"$long")"

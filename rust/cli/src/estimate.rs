@@ -2,7 +2,7 @@
 
 use crate::failure::Failure;
 use crate::memory;
-use lyra2::{Parameters, ROWS};
+use lyra2::{Counts, Parameters, ROWS};
 use std::time::Instant;
 
 /// Cells of the small matrix at most, 6 MiB.
@@ -13,7 +13,7 @@ const TIME: usize = 4;
 const TURNS: usize = 3;
 
 /// The expected seconds of a derivation with parameters that no check refuses.
-pub fn seconds(parameters: Parameters, reduced_calls: u64) -> Result<f64, Failure> {
+pub fn seconds(parameters: Parameters, counts: Counts) -> Result<f64, Failure> {
     let small = Parameters {
         time: parameters.time.min(TIME),
         rows: parameters
@@ -22,7 +22,7 @@ pub fn seconds(parameters: Parameters, reduced_calls: u64) -> Result<f64, Failur
             .max(*ROWS.start()),
         columns: parameters.columns,
     };
-    let mut matrix = memory::matrix(small.matrix_words())?;
+    let mut matrix = memory::matrix(small)?;
     let mut times = [0.0; TURNS];
     for time in &mut times {
         let began = Instant::now();
@@ -30,7 +30,7 @@ pub fn seconds(parameters: Parameters, reduced_calls: u64) -> Result<f64, Failur
         *time = began.elapsed().as_secs_f64() / counts.reduced as f64;
     }
     times.sort_by(f64::total_cmp);
-    Ok(times[TURNS / 2] * reduced_calls as f64)
+    Ok(times[TURNS / 2] * counts.reduced as f64)
 }
 
 /// A number of seconds in plain decimal, with about three digits that count.

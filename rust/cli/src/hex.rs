@@ -1,13 +1,13 @@
 //! Bytes in hexadecimal: written in lower case, read in either.
 
 use crate::failure::Failure;
-use crate::secret::Secret;
+use crate::secret::{zeros, Secret};
 
 const DIGITS: &[u8; 16] = b"0123456789abcdef";
 
 /// The bytes and a newline.
-pub fn line(bytes: &[u8]) -> Result<Secret<u8>, Failure> {
-    let mut text = Secret::zeros("key in hexadecimal", Some(2 * bytes.len() + 1))?;
+pub fn line(bytes: &[u8]) -> Secret {
+    let mut text = zeros(2 * bytes.len() + 1);
     for (pair, byte) in text.chunks_exact_mut(2).zip(bytes) {
         pair[0] = DIGITS[usize::from(byte >> 4)];
         pair[1] = DIGITS[usize::from(byte & 15)];
@@ -15,11 +15,11 @@ pub fn line(bytes: &[u8]) -> Result<Secret<u8>, Failure> {
     if let Some(last) = text.last_mut() {
         *last = b'\n';
     }
-    Ok(text)
+    text
 }
 
 /// The bytes that a text stands for. The words of a failure leave out the text, which may be a key.
-pub fn decode(place: &str, text: &[u8]) -> Result<Secret<u8>, Failure> {
+pub fn decode(place: &str, text: &[u8]) -> Result<Secret, Failure> {
     let failure = |words: String| Failure::Trouble(format!("{place}: {words}"));
     if let Some(wrong) = text.iter().position(|digit| !digit.is_ascii_hexdigit()) {
         let words = format!("character {} is not a hexadecimal digit", wrong + 1);
@@ -30,7 +30,7 @@ pub fn decode(place: &str, text: &[u8]) -> Result<Secret<u8>, Failure> {
         let words = format!("an odd number of hexadecimal digits, {count}; a byte has two");
         return Err(failure(words));
     }
-    let mut bytes = Secret::zeros("bytes in hexadecimal", Some(text.len() / 2))?;
+    let mut bytes = zeros(text.len() / 2);
     for (byte, pair) in bytes.iter_mut().zip(text.chunks_exact(2)) {
         *byte = value(pair[0]) << 4 | value(pair[1]);
     }

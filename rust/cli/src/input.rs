@@ -1,39 +1,46 @@
-//! What the commands derive from: the options for password, salt, stored key and cost parameters.
+//! What the commands derive from, and the derivations themselves.
 
-use crate::arguments::{Arguments, Source};
 use crate::failure::Failure;
-use crate::reading::{leave_out_newline, read_file};
+use crate::options::{CostOptions, PasswordOption, SaltOptions};
+use crate::password::Typed;
 use crate::secret::{wipe_stack, Secret};
-use crate::{hex, password};
-use lyra2::{Checked, Counts, Lengths, Parameters, Recorded, Refusal, KEY_LENGTHS, SALT_LENGTHS};
-use std::path::Path;
+use crate::{estimate, progress};
+use clap::Args;
+use lyra2::{Checked, Counts, Lengths, Parameters, Recorded, Refusal};
+
+/// Fewer reduced calls take less than a second on any machine that is likely, so that nothing has to be timed.
+const MANY_CALLS: u64 = 10_000_000;
+
+#[derive(Args)]
+pub struct InputOptions {
+    #[command(flatten)]
+    costs: CostOptions,
+    #[command(flatten)]
+    salt: SaltOptions,
+    #[command(flatten)]
+    password: PasswordOption,
+}
+
+impl InputOptions {
+    /// Reads what the options name, the password last, so that nobody types one for a command that is asked wrongly.
+    pub fn read(&self, typed: Typed) -> Result<Input, Failure> {
+        Ok(Input {
+            parameters: self.costs.parameters(),
+            salt: self.salt.read()?,
+            password: self.password.read(typed)?,
+        })
+    }
+}
 
 /// What a derivation is made from, apart from the key length.
 pub struct Input {
-    /// The password.
-    pub password: Secret<u8>,
-    /// The salt.
-    pub salt: Secret<u8>,
+    password: Secret,
+    salt: Secret,
     /// The cost parameters.
     pub parameters: Parameters,
 }
 
 impl Input {
-    /// Reads the options, the password last, so that nobody types one for a command that is asked wrongly.
-    pub fn read(arguments: &Arguments) -> Result<Input, Failure> {
-        let parameters = parameters(arguments)?;
-        let salt = match arguments.text_or_file("--salt", "--salt-file")? {
-            Source::Text(text) => hex::decode("--salt", text)?,
-            Source::File(path) => read_file("salt", path, SALT_LENGTHS.end() + 1)?,
-        };
-        let password = password::read(arguments.option("--password-file").map(Path::new))?;
-        Ok(Input {
-            password,
-            salt,
-            parameters,
-        })
-    }
-
     /// Asks for the cost, so that a refusal comes before any memory is set aside.
     pub fn ask_cost(&self, key: usize) -> Result<Counts, Refusal> {
         let lengths = Lengths {
@@ -46,9 +53,9 @@ impl Input {
 
     /// The plain derivation.
     pub fn derive(&self, key: &mut [u8], matrix: &mut [u64]) -> Result<Counts, Refusal> {
-        let answer = lyra2::derive(&self.password, &self.salt, self.parameters, key, matrix);
-        wipe_stack();
-        answer
+        self.shown(key.len(), |password, salt, parameters| {
+            lyra2::derive(password, salt, parameters, key, matrix)
+        })
     }
 
     /// The recorded derivation.
@@ -58,40 +65,33 @@ impl Input {
         matrix: &mut [u64],
         record: &mut [u64],
     ) -> Result<Recorded, Refusal> {
-        let (password, salt) = (&self.password, &self.salt);
-        let answer = lyra2::derive_recorded(password, salt, self.parameters, key, matrix, record);
-        wipe_stack();
-        answer
+        self.shown(key.len(), |password, salt, parameters| {
+            lyra2::derive_recorded(password, salt, parameters, key, matrix, record)
+        })
     }
 
     /// The check.
     pub fn check(&self, stored: &[u8], matrix: &mut [u64]) -> Result<Checked, Refusal> {
-        let answer = lyra2::check(&self.password, &self.salt, self.parameters, stored, matrix);
-        wipe_stack();
-        answer
+        self.shown(stored.len(), |password, salt, parameters| {
+            lyra2::check(password, salt, parameters, stored, matrix)
+        })
     }
-}
 
-/// The cost parameters.
-pub fn parameters(arguments: &Arguments) -> Result<Parameters, Failure> {
-    Ok(Parameters {
-        time: arguments.number("--time")?,
-        rows: arguments.number("--rows")?,
-        columns: arguments.number("--columns")?,
-    })
-}
-
-/// The stored key of a check.
-pub fn stored_key(arguments: &Arguments) -> Result<Secret<u8>, Failure> {
-    match arguments.text_or_file("--key", "--key-file")? {
-        Source::Text(text) => hex::decode("--key", text),
-        Source::File(path) => {
-            // Digits of one byte more than a key has are enough for the library to refuse the length.
-            let digits = 2 * (KEY_LENGTHS.end() + 1);
-            let mut text = read_file("stored key", path, digits + 1)?;
-            leave_out_newline(&mut text);
-            text.shorten(digits);
-            hex::decode(&format!("{path:?}"), &text)
-        }
+    /// Makes a call for a key of this length, shows meanwhile how far it is, and wipes the stack that it used.
+    fn shown<A>(
+        &self,
+        key: usize,
+        call: impl FnOnce(&[u8], &[u8], Parameters) -> Result<A, Refusal>,
+    ) -> Result<A, Refusal> {
+        let counts = self.ask_cost(key)?;
+        let seconds = || match counts.reduced {
+            ..MANY_CALLS => None,
+            _ => estimate::seconds(self.parameters, counts).ok(),
+        };
+        progress::by_time("deriving", seconds, || {
+            let answer = call(&self.password, &self.salt, self.parameters);
+            wipe_stack();
+            answer
+        })
     }
 }

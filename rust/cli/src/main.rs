@@ -3,9 +3,7 @@
 //! Standard output holds the result and nothing else; what went wrong is one line on standard error.
 
 #![forbid(unsafe_code)]
-#![warn(missing_docs)]
 
-mod arguments;
 mod commands;
 mod end_state;
 mod estimate;
@@ -14,56 +12,37 @@ mod help;
 mod hex;
 mod input;
 mod memory;
+mod options;
 mod outcome;
 mod password;
+mod progress;
 mod reading;
 mod secret;
+mod terminal;
+mod usage;
 
-use arguments::Request;
-use commands::Command;
 use failure::Failure;
+use lyra2_memory::Wiping;
 use outcome::Outcome;
+use std::alloc::System;
 use std::ffi::OsString;
 use std::io::Write;
 use std::process::ExitCode;
 
+/// Of a typed line the library that reads it leaves copies in memory that it frees.
+#[global_allocator]
+static ALLOCATOR: Wiping = Wiping(System);
+
 fn main() -> ExitCode {
-    let mut arguments = std::env::args_os().skip(1);
-    let answered = match arguments.next() {
-        None => Err((None, Failure::usage("no command; `lyra2 help` lists them"))),
-        Some(first) => answer(&first, arguments),
-    };
+    let arguments: Vec<OsString> = std::env::args_os().collect();
+    let answered = commands::answer(&arguments);
     let printed = answered.and_then(|outcome| print(outcome).map_err(|failure| (None, failure)));
     printed.unwrap_or_else(|(command, failure)| {
-        let name = command.map_or(String::new(), |command: &Command| {
-            format!(" {}", command.name)
-        });
+        let name = command.map_or(String::new(), |name| format!(" {name}"));
         // With no standard error left the exit status still tells.
         let _ = writeln!(std::io::stderr(), "lyra2{name}: {failure}");
         ExitCode::from(outcome::FAILED)
     })
-}
-
-/// What the arguments ask for. A failure comes with the command it belongs to.
-fn answer(
-    first: &OsString,
-    others: impl Iterator<Item = OsString>,
-) -> Result<Outcome, (Option<&'static Command>, Failure)> {
-    match first.to_str() {
-        Some("help" | "--help" | "-h") => help::answer(others).map_err(|failure| (None, failure)),
-        Some("--version" | "-V") => Ok(Outcome::result(help::version())),
-        _ => {
-            let command = commands::find(first).map_err(|failure| (None, failure))?;
-            run(command, others).map_err(|failure| (Some(command), failure))
-        }
-    }
-}
-
-fn run(command: &Command, others: impl Iterator<Item = OsString>) -> Result<Outcome, Failure> {
-    match arguments::read(command, others)? {
-        Request::Help => Ok(Outcome::result(help::of(command))),
-        Request::Run(arguments) => (command.run)(&arguments),
-    }
 }
 
 /// Writes the result. A pipe that nobody reads any more, or a full disk, is a failure like any other.

@@ -12,25 +12,30 @@ pub const FAILED: u8 = 2;
 /// A command's answer. The text may hold a key, so it is wiped when printed.
 pub struct Outcome {
     /// The bytes for standard output.
-    pub text: Secret<u8>,
+    pub text: Secret,
     /// The exit status.
     pub status: u8,
 }
 
 impl Outcome {
     /// A result.
-    pub fn result(text: impl Into<Secret<u8>>) -> Outcome {
+    pub fn result(text: impl Into<Vec<u8>>) -> Outcome {
+        Outcome::secret(Secret::new(text.into()))
+    }
+
+    /// A result that is a secret already.
+    pub fn secret(text: Secret) -> Outcome {
         Outcome {
-            text: text.into(),
+            text,
             status: RESULT,
         }
     }
 
     /// The answer to a question of yes or no.
-    pub fn answer(yes: bool, text: String) -> Outcome {
+    pub fn answer(yes: bool, text: impl Into<Vec<u8>>) -> Outcome {
         Outcome {
-            text: text.into(),
             status: if yes { RESULT } else { NO },
+            ..Outcome::result(text)
         }
     }
 }

@@ -24,30 +24,38 @@ fn commands() {
         "deduce",
         "lyra2: unknown command \"deduce\"; `lyra2 help` lists them",
     );
-    says(
-        "--deduce",
-        "lyra2: unknown command \"--deduce\"; `lyra2 help` lists them",
-    );
+    says("--deduce", "lyra2: unknown option \"--deduce\"");
     says(
         "Derive",
-        "lyra2: unknown command \"Derive\"; `lyra2 help` lists them",
+        "lyra2: unknown command \"Derive\"; is derive meant?",
     );
     says(
         "help deduce",
-        "lyra2: unknown command \"deduce\"; `lyra2 help` lists them",
+        "lyra2 help: unknown command \"deduce\"; `lyra2 help` lists them",
     );
-    says("help derive check", "lyra2: help takes one command");
+    says(
+        "help derive check",
+        "lyra2 help: unknown command \"check\"; `lyra2 help` lists them",
+    );
+    says(
+        "completions tcsh",
+        "lyra2 completions: SHELL: one of bash, elvish, fish, powershell, zsh is due",
+    );
 }
 
 #[test]
 fn options() {
     says(
-        &format!("{DERIVE} --colour red"),
-        "lyra2 derive: unknown option \"--colour\"",
+        &format!("{DERIVE} --lanes 3"),
+        "lyra2 derive: unknown option \"--lanes\"",
     );
     says(
-        &format!("{DERIVE} --colour=red"),
-        "lyra2 derive: unknown option \"--colour\"",
+        &format!("{DERIVE} --lanes=3"),
+        "lyra2 derive: unknown option \"--lanes\"",
+    );
+    says(
+        &format!("{DERIVE} --row 3"),
+        "lyra2 derive: unknown option \"--row\"; is --rows meant?",
     );
     says(
         &format!("{DERIVE} -r 3"),
@@ -55,7 +63,7 @@ fn options() {
     );
     says(
         &format!("{DERIVE} --key 00"),
-        "lyra2 derive: unknown option \"--key\"",
+        "lyra2 derive: unknown option \"--key\"; is --key-length meant?",
     );
     says(
         &format!("{DERIVE} --rows 3"),
@@ -95,6 +103,10 @@ fn options_that_exclude_each_other_or_are_missing() {
         &DERIVE.replace("derive", "trial"),
         "lyra2 trial: --output is missing",
     );
+    says(
+        "derive --time 1 --columns 1",
+        "lyra2 derive: --key-length, --rows and --salt or --salt-file are missing",
+    );
     for option in ["--time 1", "--rows 3", "--columns 1", "--key-length 8"] {
         let name = words(option)[0];
         let line = DERIVE.replace(option, "");
@@ -112,13 +124,41 @@ fn operands() {
         &format!("{DERIVE} -- --help"),
         "lyra2 derive: an argument too many; derive takes options alone",
     );
-    says("walk", "lyra2 walk: R is missing");
+    says("walk", "lyra2 walk: R and ROW0 are missing");
     says("walk 8", "lyra2 walk: ROW0 is missing");
     says(
         "walk 8 3 1",
         "lyra2 walk: an argument too many; walk takes R ROW0",
     );
     says("compare one", "lyra2 compare: FILE2 is missing");
+}
+
+/// Wherever a password is put by mistake, it is not repeated; of an option nothing but its name is.
+#[test]
+fn secrets_in_the_wrong_place() {
+    for line in [
+        format!("{DERIVE} hunter2"),
+        format!("{DERIVE} -- hunter2"),
+        format!("{DERIVE} -- --hunter2"),
+        format!("{DERIVE} -- -hunter2"),
+        format!("{DERIVE} --password=hunter2"),
+        format!("{DERIVE} --password hunter2"),
+        format!("{DERIVE} -phunter2"),
+        format!("{DERIVE} -p hunter2"),
+        format!("{DERIVE} --salt=hunter2"),
+        format!("{DERIVE} --salt hunter2"),
+        DERIVE.replace("0011223344556677", "hunter2"),
+        format!("{CHECK} --key hunter2"),
+        format!("{CHECK} --key=hunter2"),
+        format!("{CHECK} --key-file x hunter2"),
+        "walk 8 3 hunter2".to_string(),
+        "compare one two hunter2".to_string(),
+        "compare one two -- --hunter2".to_string(),
+        "completions hunter2".to_string(),
+    ] {
+        let found = lyra2(&words(&line), b"pass").failure();
+        assert!(!found.contains("hunter"), "{found}");
+    }
 }
 
 #[test]
@@ -233,7 +273,7 @@ fn file_names_that_are_no_plain_text() {
     }
     let odd_option = std::ffi::OsString::from_vec(b"--\xff".to_vec());
     let line = lyra2(&["derive".into(), odd_option], b"").failure();
-    assert_eq!(line, "lyra2 derive: unknown option \"--\\xFF\"");
+    assert_eq!(line, "lyra2 derive: unknown option \"--\u{fffd}\"");
 }
 
 #[test]

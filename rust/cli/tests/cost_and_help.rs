@@ -4,7 +4,16 @@ mod common;
 
 use common::{lyra2, words};
 
-const COMMANDS: [&str; 6] = ["derive", "check", "cost", "walk", "trial", "compare"];
+const COMMANDS: [&str; 8] = [
+    "derive",
+    "check",
+    "cost",
+    "walk",
+    "trial",
+    "compare",
+    "completions",
+    "manual",
+];
 
 fn cost(time: usize, rows: usize, columns: usize) -> String {
     let lengths = "--key-length 32 --password-length 12 --salt-length 16";
@@ -66,10 +75,8 @@ fn every_command_has_its_help_three_ways() {
     for command in COMMANDS {
         assert!(list.contains(&format!("\n  {command} ")), "{command}");
         let help = lyra2(&["help", command], b"").result();
-        assert!(
-            help.starts_with(&format!("usage: lyra2 {command} ")),
-            "{help}"
-        );
+        let usage = format!("\n\nUsage: lyra2 {command}");
+        assert!(help.contains(&usage), "{help}");
         assert!(help.contains("Exit status: 0 for"), "{help}");
         for flag in ["--help", "-h"] {
             assert_eq!(lyra2(&[command, flag], b"").result(), help);
@@ -85,11 +92,46 @@ fn the_help_names_the_options_that_there_are() {
     for command in COMMANDS {
         let help = lyra2(&["help", command], b"").result();
         for option in words(options) {
-            let named = help.contains(&format!("\n  --{option} "));
+            let named = help.contains(&format!("\n      --{option} "));
             let line = lyra2(&[command, &format!("--{option}")], b"").failure();
             let known = line == format!("lyra2 {command}: --{option} has no value");
             assert_eq!(named, known, "{command} --{option}: {line}");
         }
+    }
+}
+
+/// The names of the options that a help has.
+fn options_of(help: &str) -> Vec<&str> {
+    let lines = help.lines().map(str::trim_start);
+    let options = lines.filter(|line| line.starts_with("--"));
+    options.filter_map(|line| line.split(' ').next()).collect()
+}
+
+#[test]
+fn the_manual_page_has_what_the_help_has() {
+    let page = lyra2(&["manual"], b"").result().replace("\\-", "-");
+    let parts: Vec<&str> = page.split("\n.SS ").collect();
+    assert_eq!(parts.len(), 1 + COMMANDS.len());
+    for (command, part) in COMMANDS.into_iter().zip(&parts[1..]) {
+        assert!(part.starts_with(&format!("{command}\n")), "{part}");
+        let help = lyra2(&["help", command], b"").result();
+        let summary = help.lines().next().expect("a first line");
+        assert!(part.contains(&format!("\n{summary}.\n")), "{part}");
+        for option in options_of(&help) {
+            assert!(part.contains(&format!("\n\\fB{option}\\fR ")), "{option}");
+        }
+    }
+    assert!(options_of(&lyra2(&["help", "check"], b"").result()).contains(&"--key-file"));
+}
+
+#[test]
+fn completions_name_every_command() {
+    for shell in ["bash", "elvish", "fish", "powershell", "zsh"] {
+        let script = lyra2(&["completions", shell], b"").result();
+        for command in COMMANDS {
+            assert!(script.contains(command), "{shell}: {command}");
+        }
+        assert!(script.contains("key-length"), "{shell}");
     }
 }
 
@@ -101,7 +143,7 @@ fn help_is_given_before_anything_is_missed() {
         help
     );
     assert!(help.contains("exactly one is left out"));
-    assert!(help.contains("seen on the screen"));
+    assert!(help.contains("what is typed is not shown"));
 }
 
 #[test]

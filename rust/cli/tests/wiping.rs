@@ -5,11 +5,12 @@
 
 mod common;
 
+use common::terminal::Terminal;
 use common::{command, hex, words, TemporaryFile};
 use lyra2_reference::{derive_recorded, Inputs};
 use std::fs::File;
-use std::io::{PipeReader, Read, Seek, SeekFrom, Write};
-use std::process::{Child, Stdio};
+use std::io::{PipeReader, PipeWriter, Read, Seek, SeekFrom, Write};
+use std::process::Stdio;
 use std::time::{Duration, Instant};
 
 const PASSWORD: &[u8] = b"a password to search for";
@@ -59,26 +60,39 @@ fn due() -> ([u8; 64], Vec<u8>) {
     (key, bytes.collect())
 }
 
-/// Starts `derive` into a full pipe, which is full as long as its reader is kept.
-fn start(options: &str, input: &[u8]) -> (Child, PipeReader) {
+/// A pipe that is full as long as its reader is kept.
+fn full_pipe() -> (PipeReader, PipeWriter) {
     let (reader, mut writer) = std::io::pipe().expect("a pipe");
     writer.write_all(&[0; PIPE_BYTES]).expect("an empty pipe");
+    (reader, writer)
+}
+
+fn derive(options: &str) -> String {
     let costs = "--time 1 --rows 16 --columns 4 --key-length 64";
-    let line = format!("derive --salt {} {costs} {options}", hex(b"saltsalt"));
+    format!("derive --salt {} {costs} {options}", hex(b"saltsalt"))
+}
+
+/// Runs `derive` into a full pipe and returns what is left in its memory.
+fn left_by(options: &str, input: &[u8]) -> Vec<&'static str> {
+    let (reader, writer) = full_pipe();
     let mut program = command();
     program
-        .args(words(&line))
+        .args(words(&derive(options)))
         .stdin(Stdio::piped())
         .stdout(writer);
     let mut child = program.spawn().expect("the program starts");
     let mut pipe = child.stdin.take().expect("a pipe");
     pipe.write_all(input).expect("the program reads");
-    (child, reader)
+    drop(pipe);
+    let left = traces_left(child.id());
+    child.kill().expect("a process of ours");
+    child.wait().expect("the program ends");
+    drop(reader);
+    left
 }
 
-/// The names of the traces that stay in the program's memory while it holds the key's text.
-fn traces_left(options: &str, input: &[u8]) -> Vec<&'static str> {
-    let (mut child, reader) = start(options, input);
+/// The names of the traces that stay in the memory of a process while it holds the key's text.
+fn traces_left(process: u32) -> Vec<&'static str> {
     let (key, matrix) = due();
     let text = hex(&key);
     // The library holds what it works on in words, so a part of the password or the key is searched for.
@@ -92,15 +106,12 @@ fn traces_left(options: &str, input: &[u8]) -> Vec<&'static str> {
     let mut left = vec!["no key"];
     while !left.is_empty() && began.elapsed() < PATIENCE {
         std::thread::sleep(Duration::from_millis(50));
-        let memory = memory(child.id());
+        let memory = memory(process);
         if holds(&memory, text.as_bytes()) {
             let stays = traces.iter().filter(|(_, trace)| holds(&memory, trace));
             left = stays.map(|(name, _)| *name).collect();
         }
     }
-    child.kill().expect("a process of ours");
-    child.wait().expect("the program ends");
-    drop(reader);
     left
 }
 
@@ -108,12 +119,31 @@ const NOTHING: [&str; 0] = [];
 
 #[test]
 fn of_a_password_from_standard_input_nothing_is_left() {
-    assert_eq!(traces_left("", PASSWORD), NOTHING);
+    assert_eq!(left_by("", PASSWORD), NOTHING);
 }
 
 #[test]
 fn of_a_password_from_a_file_nothing_is_left() {
     let file = TemporaryFile::holding(PASSWORD);
     let options = format!("--password-file {}", file.name());
-    assert_eq!(traces_left(&options, b""), NOTHING);
+    assert_eq!(left_by(&options, b""), NOTHING);
+}
+
+/// The shell says its number and becomes the program, whose output is the full pipe.
+#[test]
+fn of_a_typed_password_nothing_is_left() {
+    let (reader, writer) = full_pipe();
+    let program = env!("CARGO_BIN_EXE_lyra2");
+    let line = format!("echo \"<$$>\"; exec '{program}' {} >&3", derive(""));
+    let mut terminal = Terminal::start(&line, Stdio::from(writer));
+    for prompt in ["Password: ", "The same again: "] {
+        terminal.wait_for(prompt);
+        terminal.type_in(&[PASSWORD, b"\n"].concat());
+    }
+    let shown = terminal.shown();
+    let (_, number) = shown.split_once('<').expect("a number");
+    let (number, _) = number.split_once('>').expect("a number");
+    let process = number.parse().expect("a number");
+    assert_eq!(traces_left(process), NOTHING);
+    drop((terminal, reader));
 }

@@ -1,38 +1,39 @@
 //! `lyra2 compare`: where two end-state files part.
 
-use super::Command;
-use crate::arguments::Arguments;
 use crate::end_state::compare::compare;
-use crate::end_state::read::Reader;
 use crate::failure::Failure;
+use crate::help;
 use crate::outcome::Outcome;
+use clap::Args;
+use std::path::PathBuf;
 
-pub const COMMAND: Command = Command {
-    name: "compare",
-    summary: "tell whether two end-state files are equal, or where they part",
-    options: &[],
-    operands: &["FILE1", "FILE2"],
-    help: &[
-        "usage: lyra2 compare FILE1 FILE2",
-        "Prints equal, or the first place where two end-state files part and then a line for each part of\n\
-         them: the header, the state, the matrix and the record. A part that differs is told by its first\n\
-         difference, with the value of FILE1 before that of FILE2. Visits, rows, columns and words are\n\
-         counted from 0.",
-        "The first place is first in time: the header, then the record, which the walk writes on its way,\n\
-         then the state and the matrix, which it leaves. Where T, R or C differ, matrix and record are\n\
-         not compared. Where T is 0 both records are empty, and equal.",
-        "docs/ACCEPTANCE.md says what equal end states settle, and docs/END-STATES.md describes the files.",
-        "Exit status: 0 for equal, 1 for different, 2 for a file that cannot be read or is damaged.",
-    ],
-    run,
-};
+/// Tell whether two end-state files are equal, or where they part
+#[derive(Args)]
+#[command(after_help = help::paragraphs(&[
+    "Printed is equal, or the first place where two end-state files part and then a line for each part of them: the \
+     header, the state, the matrix and the record. A part that differs is told by its first difference, with the value of \
+     FILE1 before that of FILE2. Visits, rows, columns and words are counted from 0.",
+    "The first place is first in time: the header, then the record, which the walk writes on its way, then the state and \
+     the matrix, which it leaves. Where T, R or C differ, matrix and record are not compared. Where T is 0 both records are \
+     empty, and equal.",
+    "docs/ACCEPTANCE.md says what equal end states settle, and docs/END-STATES.md describes the files.",
+    "Exit status: 0 for equal, 1 for different, 2 for a file that cannot be read or is damaged.",
+]))]
+pub struct Compare {
+    /// An end-state file
+    #[arg(value_name = "FILE1")]
+    first: PathBuf,
+    /// The one that it is compared with
+    #[arg(value_name = "FILE2")]
+    second: PathBuf,
+}
 
-fn run(arguments: &Arguments) -> Result<Outcome, Failure> {
-    let first = Reader::open(arguments.operand_file(0))?;
-    let second = Reader::open(arguments.operand_file(1))?;
-    let comparison = compare(first, second)?;
-    Ok(Outcome::answer(
-        comparison.is_equal(),
-        comparison.to_string(),
-    ))
+impl Compare {
+    pub fn run(self) -> Result<Outcome, Failure> {
+        let comparison = compare(&self.first, &self.second)?;
+        Ok(Outcome::answer(
+            comparison.is_equal(),
+            comparison.to_string(),
+        ))
+    }
 }

@@ -1,46 +1,75 @@
-//! The commands: what each is called, takes and does.
+//! The list of the commands. Each stands in a module of its own and knows none of the others.
 
 mod check;
 mod compare;
+mod completions;
 mod cost;
 mod derive;
+mod manual;
 mod trial;
 mod walk;
 
-use crate::arguments::Arguments;
 use crate::failure::Failure;
 use crate::outcome::Outcome;
-use std::ffi::OsStr;
+use crate::usage;
+use clap::error::ErrorKind;
+use clap::{CommandFactory, FromArgMatches, Parser, Subcommand};
+use std::ffi::OsString;
 
-/// A command.
-pub struct Command {
-    /// Its name on the command line.
-    pub name: &'static str,
-    /// What it does, for the list of commands.
-    pub summary: &'static str,
-    /// Its options; each takes a value.
-    pub options: &'static [&'static str],
-    /// The names of its operands, all of which have to be given.
-    pub operands: &'static [&'static str],
-    /// The paragraphs of its help.
-    pub help: &'static [&'static str],
-    /// Carries it out.
-    pub run: fn(&Arguments) -> Result<Outcome, Failure>,
+/// Password key derivation with Lyra2.
+#[derive(Parser)]
+#[command(name = "lyra2", version, after_help = AFTER_HELP)]
+struct Program {
+    #[command(subcommand)]
+    command: Command,
 }
 
-/// Every command, in the order of the help.
-pub const COMMANDS: [&Command; 6] = [
-    &derive::COMMAND,
-    &check::COMMAND,
-    &cost::COMMAND,
-    &walk::COMMAND,
-    &trial::COMMAND,
-    &compare::COMMAND,
-];
+const AFTER_HELP: &str = "`lyra2 help COMMAND` tells what a command takes.\n\nExit status: 0 for a result, 1 for the \
+answer no or different, 2 for a refusal or anything that went wrong, which one line on standard error tells.";
 
-/// The command of this name.
-pub fn find(name: &OsStr) -> Result<&'static Command, Failure> {
-    let found = COMMANDS.into_iter().find(|command| name == command.name);
-    found
-        .ok_or_else(|| Failure::usage(format!("unknown command {name:?}; `lyra2 help` lists them")))
+#[derive(Subcommand)]
+enum Command {
+    Derive(derive::Derive),
+    Check(check::Check),
+    Cost(cost::Cost),
+    Walk(walk::Walk),
+    Trial(trial::Trial),
+    Compare(compare::Compare),
+    Completions(completions::Completions),
+    Manual(manual::Manual),
+}
+
+impl Command {
+    fn run(self) -> Result<Outcome, Failure> {
+        match self {
+            Command::Derive(derive) => derive.run(),
+            Command::Check(check) => check.run(),
+            Command::Cost(cost) => cost.run(),
+            Command::Walk(walk) => walk.run(),
+            Command::Trial(trial) => trial.run(),
+            Command::Compare(compare) => compare.run(),
+            Command::Completions(completions) => Ok(completions.run(Program::command())),
+            Command::Manual(manual) => Ok(manual.run(Program::command())),
+        }
+    }
+}
+
+/// What the arguments ask for, the program's name first. A failure comes with the name of the command it belongs to.
+pub fn answer(arguments: &[OsString]) -> Result<Outcome, (Option<String>, Failure)> {
+    let mut program = Program::command();
+    program.build();
+    let given = arguments.get(1).and_then(|name| name.to_str());
+    let command = given.and_then(|name| program.find_subcommand(name));
+    let name = || command.map(|command| command.get_name().to_string());
+    let matches = program.clone().try_get_matches_from(arguments);
+    match matches.and_then(|matches| Program::from_arg_matches(&matches)) {
+        Ok(program) => program.command.run(),
+        Err(error) => match error.kind() {
+            ErrorKind::DisplayHelp | ErrorKind::DisplayVersion => {
+                Ok(Outcome::result(error.to_string()))
+            }
+            _ => Err(usage::failure(&error, arguments, command)),
+        },
+    }
+    .map_err(|failure| (name(), failure))
 }

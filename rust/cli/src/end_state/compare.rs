@@ -3,8 +3,10 @@
 use super::read::Reader;
 use super::{Header, FIELDS};
 use crate::failure::Failure;
+use crate::progress;
 use lyra2::{CELL_WORDS, STATE_WORDS};
 use std::fmt;
+use std::path::Path;
 
 /// What the comparison of a part comes to.
 enum Part {
@@ -30,10 +32,12 @@ struct Difference {
 }
 
 /// Compares two files to their ends, so that a damaged one is noticed wherever they part.
-pub fn compare(
-    (header, mut first): (Header, Reader),
-    (other, mut second): (Header, Reader),
-) -> Result<Comparison, Failure> {
+pub fn compare(first: &Path, second: &Path) -> Result<Comparison, Failure> {
+    // A name without a length is told when it is opened.
+    let bytes = |path: &Path| path.metadata().map_or(0, |found| found.len());
+    let bar = progress::by_bytes("reading", bytes(first) + bytes(second));
+    let (header, mut first) = Reader::open(first, &bar)?;
+    let (other, mut second) = Reader::open(second, &bar)?;
     let files = &mut [&mut first, &mut second];
     let state = first_difference(files, STATE_WORDS as u64)?;
     let columns = header.parameters.columns as u64;

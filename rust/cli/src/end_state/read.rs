@@ -3,6 +3,7 @@
 use super::checksum::Checksum;
 use super::{Header, HEADER_WORDS};
 use crate::failure::Failure;
+use indicatif::{ProgressBar, ProgressBarIter};
 use std::fs::File;
 use std::io::{self, BufReader, ErrorKind, Read};
 use std::path::{Path, PathBuf};
@@ -10,18 +11,18 @@ use std::path::{Path, PathBuf};
 /// An end-state file being read.
 pub struct Reader {
     path: PathBuf,
-    file: BufReader<File>,
+    file: BufReader<ProgressBarIter<File>>,
     sum: Checksum,
     header: Option<Header>,
 }
 
 impl Reader {
-    /// Opens a file and reads its header.
-    pub fn open(path: &Path) -> Result<(Header, Reader), Failure> {
+    /// Opens a file and reads its header. The bar shows what is read.
+    pub fn open(path: &Path, bar: &ProgressBar) -> Result<(Header, Reader), Failure> {
         let file = File::open(path).map_err(|error| Failure::of_file(path, error))?;
         let mut reader = Reader {
             path: path.to_path_buf(),
-            file: BufReader::new(file),
+            file: BufReader::new(bar.wrap_read(file)),
             sum: Checksum::new(),
             header: None,
         };

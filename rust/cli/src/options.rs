@@ -1,0 +1,115 @@
+//! The options that several commands share, and what is read for them.
+//!
+//! The structs have no documentation comments, since clap would take those for the help of the commands they are in.
+
+use crate::failure::Failure;
+use crate::hex;
+use crate::password::{self, Typed};
+use crate::reading::{leave_out_newline, read_file};
+use crate::secret::Secret;
+use clap::{ArgGroup, Args};
+use lyra2::{Parameters, KEY_LENGTHS, SALT_LENGTHS};
+use std::ffi::OsString;
+use std::path::PathBuf;
+
+/// What a group of options has that clap requires one of.
+const ONE_IS_GIVEN: &str = "clap requires one of the two";
+
+#[derive(Args)]
+pub struct CostOptions {
+    /// The time cost, 0 to 255; with 0 the matrix is filled and no visit is made, which leaves the least work to whoever guesses
+    #[arg(long, value_name = "T", value_parser = decimal, allow_negative_numbers = true)]
+    time: usize,
+    /// The number of rows, 3 to 16384
+    #[arg(long, value_name = "R", value_parser = decimal, allow_negative_numbers = true)]
+    rows: usize,
+    /// The number of columns, 1 to 256; the matrix has 96*R*C bytes
+    #[arg(long, value_name = "C", value_parser = decimal, allow_negative_numbers = true)]
+    columns: usize,
+}
+
+impl CostOptions {
+    pub fn parameters(&self) -> Parameters {
+        Parameters {
+            time: self.time,
+            rows: self.rows,
+            columns: self.columns,
+        }
+    }
+}
+
+#[derive(Args)]
+pub struct KeyLengthOption {
+    /// Bytes of the key, 1 to 1024
+    #[arg(long, value_name = "N", value_parser = decimal, allow_negative_numbers = true)]
+    pub key_length: usize,
+}
+
+#[derive(Args)]
+#[command(group = ArgGroup::new("one salt").required(true).args(["salt", "salt_file"]))]
+pub struct SaltOptions {
+    /// The salt in hexadecimal, 8 to 64 bytes
+    #[arg(long, value_name = "HEX")]
+    salt: Option<OsString>,
+    /// A file whose bytes are the salt, all of them, a last newline too
+    #[arg(long, value_name = "FILE")]
+    salt_file: Option<PathBuf>,
+}
+
+impl SaltOptions {
+    pub fn read(&self) -> Result<Secret, Failure> {
+        if let Some(text) = &self.salt {
+            return hex::decode("--salt", text.as_encoded_bytes());
+        }
+        let path = self.salt_file.as_ref().expect(ONE_IS_GIVEN);
+        read_file(path, SALT_LENGTHS.end() + 1)
+    }
+}
+
+#[derive(Args)]
+#[command(group = ArgGroup::new("one key").required(true).args(["key", "key_file"]))]
+pub struct StoredKeyOptions {
+    /// The stored key in hexadecimal; other users of the machine can see it
+    #[arg(long, value_name = "HEX")]
+    key: Option<OsString>,
+    /// A file that holds it in the form that `lyra2 derive` prints: hexadecimal digits, then at most one newline
+    #[arg(long, value_name = "FILE")]
+    key_file: Option<PathBuf>,
+}
+
+impl StoredKeyOptions {
+    pub fn read(&self) -> Result<Secret, Failure> {
+        if let Some(text) = &self.key {
+            return hex::decode("--key", text.as_encoded_bytes());
+        }
+        let path = self.key_file.as_ref().expect(ONE_IS_GIVEN);
+        // Digits of one byte more than a key has are enough for the library to refuse the length.
+        let digits = 2 * (KEY_LENGTHS.end() + 1);
+        let mut text = read_file(path, digits + 1)?;
+        leave_out_newline(&mut text);
+        text.truncate(digits);
+        hex::decode(&format!("{path:?}"), &text)
+    }
+}
+
+#[derive(Args)]
+pub struct PasswordOption {
+    /// A file whose bytes are the password, all of them, a last newline too
+    #[arg(long, value_name = "FILE")]
+    password_file: Option<PathBuf>,
+}
+
+impl PasswordOption {
+    pub fn read(&self, typed: Typed) -> Result<Secret, Failure> {
+        password::read(self.password_file.as_deref(), typed)
+    }
+}
+
+/// A number in decimal digits, and nothing beside them. Its limits are the library's to check.
+pub fn decimal(text: &str) -> Result<usize, String> {
+    if text.is_empty() || !text.bytes().all(|digit| digit.is_ascii_digit()) {
+        return Err(format!("{text:?} is not a number in decimal digits"));
+    }
+    text.parse()
+        .map_err(|_| format!("{text} has more than 64 bits"))
+}
