@@ -108,8 +108,8 @@ struct memory {
     uint64_t *words;
 };
 
-/* Sets memory aside. Large pages make a derivation over some megabytes faster; core dumps leave it out; locked, it is not
- * swapped out, as far as `ulimit -l` allows. What the system refuses of these three is done without. */
+/* Sets memory aside. Large pages make a derivation over some megabytes faster; core dumps leave it out; locked, as far
+ * as `ulimit -l` allows, it is not swapped out. What the system refuses of these three is done without. */
 static int lend(struct memory *memory, size_t bytes)
 {
     memory->mapped = bytes + LARGE_PAGE;
@@ -120,13 +120,13 @@ static int lend(struct memory *memory, size_t bytes)
     void *start = (char *)memory->mapping + (past == 0 ? 0 : LARGE_PAGE - past);
     (void)madvise(start, bytes, MADV_HUGEPAGE);
     (void)madvise(start, bytes, MADV_DONTDUMP);
-    (void)mlock(start, bytes); /* last, for a page that is locked is there, and does not become a large one */
+    (void)mlock(start, bytes); /* last, for this fetches the pages, which should be large ones from the start */
     memory->words = start;
     return 1;
 }
 
-/* Gives memory back, and with it the lock. It is not wiped here: the library leaves zeros in the matrix of a derivation or
- * a check, and a refused call leaves it alone. After a recorded derivation matrix and record have to be wiped first. */
+/* Gives memory back, and with it the lock. It is not wiped here: the library leaves zeros in the matrix of a derivation
+ * or a check, and a refused call leaves it alone. After a recorded derivation matrix and record have to be wiped. */
 static void give_back(struct memory *memory)
 {
     munmap(memory->mapping, memory->mapped);

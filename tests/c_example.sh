@@ -37,6 +37,19 @@ same 'the example with T = 0' "cost: 2 full calls, 3 reduced calls, 27 rounds, 2
 this key: yes
 with a bit changed: no" "$(grep -v '^key: ' <<<"$setup_alone")"
 
+# ---- the memory that it lends: whatever the system refuses it derives the same, and without any it says so
+compile refusing
+cc "${flags[@]}" examples/derive_and_check.c "$work/refusing.o" "$library" -o "$work/unaided"
+found=$(printf '%s' "$password" | "$work/unaided" "${numbers[@]}" 2>"$work/log")
+same 'the example without large pages or a lock' "$(cat examples/derive_and_check.out)" "$found"
+same 'what the system was asked' 'large 0 1572864
+undumped 0 1572864
+lock 0 1572864' "$(cat "$work/log")"
+status=0
+(ulimit -v 300000 && printf '%s' "$password" | "$work/example" saltsalt 1 16384 256 32) >"$work/out" 2>"$work/log" || status=$?
+same 'status without memory' 2 "$status"
+same 'the example without memory' 'no memory for a matrix of 402653184 bytes' "$(cat "$work/log")"
+
 refused() { # NUMBER SENTENCE ARGUMENT..
     local status=0 due="refused $1: $2"
     shift 2

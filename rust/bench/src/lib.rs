@@ -5,9 +5,11 @@
 //! | `speed` | the plain derivation in safe Rust, written for speed |
 //! | `intrinsics` | the plain derivation in C with intrinsics, of `c/` |
 //! | `argon2` | Argon2id of libargon2, where it is installed |
+//! | `lent` | the buffers that a program works in, on ordinary pages or on large ones |
 //! | `programs` | everything that is measured, in one form |
 //! | `measure` | the turns in which the programs run, and their times |
 //! | `table`, `machine` | the tables of docs/PERFORMANCE.md and the machine they hold for |
+//! | `pages`, `fresh` | large pages beside ordinary ones, and a Vec of pages that were never touched |
 //! | `sizes`, `plot` | time against memory, and the picture of it |
 
 #![deny(unsafe_code)]
@@ -16,9 +18,13 @@
 #[allow(unsafe_code)]
 pub mod argon2;
 #[allow(unsafe_code)]
+pub mod fresh;
+#[allow(unsafe_code)]
 pub mod intrinsics;
+pub mod lent;
 pub mod machine;
 pub mod measure;
+pub mod pages;
 pub mod plot;
 pub mod programs;
 pub mod sizes;

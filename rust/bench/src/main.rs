@@ -2,14 +2,15 @@
 
 #![forbid(unsafe_code)]
 
-use bench::programs::{self, Lent};
-use bench::{machine, plot, sizes, table};
+use bench::lent::Lent;
+use bench::{machine, pages, plot, programs, sizes, table};
 use lyra2_reference::refusal::check_parameters;
 use std::process::ExitCode;
 
 const USAGE: &str = "\
 usage: bench [table] [--quick]         the tables, in Markdown
        bench table R C .. [--quick]    the same for these numbers of rows and columns
+       bench pages [--quick]           large pages beside ordinary ones, in Markdown
        bench plot FILE [--quick]       time against memory, as an SVG picture
        bench once PROGRAM R C          one derivation, for a tool that counts instructions
 --quick makes one pass over the measurements instead of four.";
@@ -22,6 +23,7 @@ fn main() -> ExitCode {
     let done = match words[..] {
         [] | ["table"] => print_tables(&table::SHAPES, quick),
         ["table", ref numbers @ ..] => shapes(numbers).and_then(|s| print_tables(&s, quick)),
+        ["pages"] => print_pages(quick),
         ["plot", file] => draw(file, quick),
         ["once", program, r, c] => once(program, r, c),
         _ => Err(USAGE.to_string()),
@@ -59,6 +61,16 @@ fn print_tables(shapes: &[(u64, u64)], quick: bool) -> Result<(), String> {
     let (programs, missing) = programs::all();
     println!("{}", machine::description());
     table::print(&programs, shapes, quick);
+    for line in missing {
+        println!("\n{line}");
+    }
+    Ok(())
+}
+
+fn print_pages(quick: bool) -> Result<(), String> {
+    let (programs, missing) = programs::all();
+    println!("{}{}", machine::description(), pages::description());
+    pages::print(&programs, quick);
     for line in missing {
         println!("\n{line}");
     }

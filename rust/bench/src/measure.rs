@@ -7,7 +7,8 @@
 //! matrix, word for word. The others must leave zeros, which tell that the matrix was wiped and nothing of what was in
 //! it, so that the key alone vouches for their walk.
 
-use crate::programs::{Lent, Program};
+use crate::lent::Lent;
+use crate::programs::Program;
 use lyra2_reference::{derive_recorded, Inputs};
 use std::time::Instant;
 
@@ -31,6 +32,12 @@ pub fn passes(quick: bool) -> usize {
 pub struct Times(Vec<f64>);
 
 impl Times {
+    /// Times in any order.
+    pub fn new(mut seconds: Vec<f64>) -> Times {
+        seconds.sort_by(f64::total_cmp);
+        Times(seconds)
+    }
+
     /// Takes in the times of another pass.
     pub fn add(&mut self, other: Times) {
         self.0.extend(other.0);
@@ -90,19 +97,30 @@ impl Due {
 
 /// The times of every program, in the order of the programs.
 pub fn measure(inputs: &Inputs, programs: &[&Program], turns: usize) -> Vec<Times> {
+    measure_in(&mut [Lent::new(inputs)], inputs, programs, turns)
+}
+
+/// The times of every program in each of several buffers: of all programs in the first, then of all in the second.
+pub fn measure_in(
+    buffers: &mut [Lent],
+    inputs: &Inputs,
+    programs: &[&Program],
+    turns: usize,
+) -> Vec<Times> {
     let due = Due::new(inputs);
-    let mut lent = Lent::new(inputs);
-    lent.stored = due.key;
-    let mut times = vec![Vec::with_capacity(turns); programs.len()];
+    buffers.iter_mut().for_each(|lent| lent.stored = due.key);
+    let runs = buffers.len() * programs.len();
+    let mut times = vec![Vec::with_capacity(turns); runs];
     for turn in 0..turns {
-        for place in 0..programs.len() {
-            let number = (turn + place) % programs.len();
-            let time = timed(programs[number], inputs, &mut lent);
-            due.assert_left(programs[number], &mut lent);
-            times[number].push(time);
+        for place in 0..runs {
+            let number = (turn + place) % runs;
+            let program = programs[number % programs.len()];
+            let lent = &mut buffers[number / programs.len()];
+            times[number].push(timed(program, inputs, lent));
+            due.assert_left(program, lent);
         }
     }
-    times.into_iter().map(sorted).collect()
+    times.into_iter().map(Times::new).collect()
 }
 
 /// Adds the times of a pass to those of the passes before, program by program.
@@ -120,9 +138,4 @@ fn timed(program: &Program, inputs: &Inputs, lent: &mut Lent) -> f64 {
     let began = Instant::now();
     (program.derive)(inputs, lent);
     began.elapsed().as_secs_f64()
-}
-
-fn sorted(mut times: Vec<f64>) -> Times {
-    times.sort_by(f64::total_cmp);
-    Times(times)
 }

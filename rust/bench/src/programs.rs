@@ -1,59 +1,20 @@
 //! Everything that is measured, in one form.
 
 use crate::argon2::Argon2;
+use crate::lent::Lent;
 use crate::{intrinsics, speed};
 use derivation_link::Proved;
 use lyra2_reference::vectors::{Reference, Subject};
 use lyra2_reference::Inputs;
 
+/// The name of the library's plain derivation.
+pub const PLAIN: &str = "this library, plain";
 /// The name of the program that the first ratio is to.
 pub const RUST_FOR_SPEED: &str = "Rust for speed";
 /// The name of the program that the second ratio is to.
 pub const C_SSE2: &str = "C, SSE2";
-
-/// Bytes of a line of the cache.
-const LINE_BYTES: usize = 64;
-
-/// The buffers that a program works in. All get the same ones in turn, so that no program has better pages.
-pub struct Lent {
-    /// The key that a check is asked about.
-    pub stored: [u8; 32],
-    /// The place for the derived key.
-    pub key: [u8; 32],
-    /// The place for the visit record.
-    pub record: Vec<u64>,
-    /// The matrix from `start` on.
-    words: Vec<u64>,
-    start: usize,
-}
-
-impl Lent {
-    /// Buffers for a derivation from these inputs, none of them zeros, so that their pages are there.
-    pub fn new(inputs: &Inputs) -> Lent {
-        let given = inputs.parameters(32);
-        let matrix_words = given.matrix_words() as usize;
-        let mut words = vec![1; matrix_words + LINE_BYTES / 8];
-        let start = words.as_ptr().align_offset(LINE_BYTES);
-        words.truncate(start + matrix_words);
-        Lent {
-            stored: [1; 32],
-            key: [1; 32],
-            record: vec![1; given.record_words() as usize],
-            words,
-            start,
-        }
-    }
-
-    /// The matrix; it starts with a line of the cache.
-    pub fn matrix(&mut self) -> &mut [u64] {
-        &mut self.words[self.start..]
-    }
-
-    /// The places for the key and the matrix.
-    fn key_and_matrix(&mut self) -> (&mut [u8], &mut [u64]) {
-        (&mut self.key, &mut self.words[self.start..])
-    }
-}
+/// The name of the other function.
+pub const ARGON2ID: &str = "Argon2id of libargon2";
 
 /// What a program does with the inputs and the buffers.
 type Derive = Box<dyn Fn(&Inputs, &mut Lent)>;
@@ -87,7 +48,7 @@ impl Program {
 /// The programs that can run here, and a line for each that can't.
 pub fn all() -> (Vec<Program>, Vec<&'static str>) {
     let mut programs = vec![
-        Program::lyra2("this library, plain", true, proved),
+        Program::lyra2(PLAIN, true, proved),
         Program {
             keeps_matrix: true,
             ..Program::lyra2("this library, recorded", false, proved_recorded)
@@ -117,8 +78,8 @@ fn proved(inputs: &Inputs, lent: &mut Lent) {
 }
 
 fn proved_recorded(inputs: &Inputs, lent: &mut Lent) {
-    let matrix = &mut lent.words[lent.start..];
-    let answer = Proved.derive_recorded(inputs, &mut lent.key, matrix, &mut lent.record);
+    let (key, matrix, record) = lent.all();
+    let answer = Proved.derive_recorded(inputs, key, matrix, record);
     let answer = answer.expect("the library has this operation");
     answer.expect("no check refuses");
 }
@@ -161,7 +122,7 @@ fn argon2id(library: Argon2) -> Program {
         answer.expect("libargon2 takes these inputs");
     };
     Program {
-        name: "Argon2id of libargon2",
+        name: ARGON2ID,
         lyra2: false,
         keeps_matrix: false,
         drawn: true,

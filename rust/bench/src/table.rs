@@ -8,13 +8,19 @@ use lyra2_reference::Inputs;
 pub const SHAPES: [(u64, u64); 4] = [(1024, 64), (256, 256), (16_384, 64), (4096, 256)];
 
 /// The turns of a shape in a pass, fewer where a derivation takes long.
-fn turns((r, c): (u64, u64)) -> usize {
-    if r * c > 1 << 18 {
+pub fn turns((r, c): (u64, u64)) -> usize {
+    if r * c > 1 << 20 {
+        3
+    } else if r * c > 1 << 18 {
         8
     } else {
         40
     }
 }
+
+/// What the fields of every table hold.
+pub const FIELDS: &str =
+    "Every field holds the minimum and the median of all turns; a ratio above 1 is slower.";
 
 const HEAD: [&str; 5] = [
     "program",
@@ -52,15 +58,19 @@ pub fn print(programs: &[Program], shapes: &[(u64, u64)], quick: bool) {
             add_pass(times, measure(&inputs(r, c), &programs, turns((r, c))));
         }
     }
-    println!(
-        "Every field holds the minimum and the median of all turns; a ratio above 1 is slower."
-    );
+    println!("{FIELDS}");
     for (&(r, c), times) in shapes.iter().zip(&times) {
         let inputs = inputs(r, c);
-        let (size, turns) = (mebibytes(&inputs), times[0].count());
-        println!("\n**{size} MiB:** T 1, R {r}, C {c}, {turns} turns\n");
+        println!("{}", title(&inputs, &times[0]));
         print!("{}", markdown(&inputs, &programs, times));
     }
+}
+
+/// The line above a table.
+pub fn title(inputs: &Inputs, times: &Times) -> String {
+    let Inputs { t, r, c, .. } = inputs;
+    let (size, turns) = (mebibytes(inputs), times.count());
+    format!("\n**{size} MiB:** T {t}, R {r}, C {c}, {turns} turns\n")
 }
 
 /// A table with a line for each program.
@@ -77,35 +87,41 @@ fn markdown(inputs: &Inputs, programs: &[&Program], times: &[Times]) -> String {
 }
 
 /// Markdown's line below the head: names to the left, numbers to the right.
-fn rule() -> Line {
-    ["---", "---:", "---:", "---:", "---:"].map(String::from)
+pub fn rule<const N: usize>() -> [String; N] {
+    std::array::from_fn(|column| if column == 0 { "---" } else { "---:" }.to_string())
 }
 
-/// Argon2id makes no reduced calls, so its time is given by the memory alone.
-fn line(inputs: &Inputs, program: &Program, times: &Times, bases: [&Times; 2]) -> Line {
+/// Nanoseconds a reduced call. Argon2id makes none, so its time is given by the memory alone.
+pub fn per_call(inputs: &Inputs, program: &Program, times: &Times) -> String {
     let calls = (inputs.r * inputs.c * (inputs.t + 1)) as f64;
-    let size = mebibytes(inputs);
-    let per_call = match program.lyra2 {
+    match program.lyra2 {
         true => pair(times, |time| format!("{:.1}", time * 1e9 / calls)),
         false => "–".to_string(),
-    };
+    }
+}
+
+fn line(inputs: &Inputs, program: &Program, times: &Times, bases: [&Times; 2]) -> Line {
+    let size = mebibytes(inputs);
+    let per_call = per_call(inputs, program, times);
     let per_second = pair(times, |time| format!("{:.0}", size / time));
     let [rust, c] = bases.map(|base| ratios(times, base));
     [program.name.to_string(), per_call, per_second, rust, c]
 }
 
-fn pair(times: &Times, text: impl Fn(f64) -> String) -> String {
+/// The minimum and the median.
+pub fn pair(times: &Times, text: impl Fn(f64) -> String) -> String {
     format!("{} / {}", text(times.minimum()), text(times.median()))
 }
 
-fn ratios(times: &Times, base: &Times) -> String {
+/// The minimum by the other's minimum, and the median by the other's median.
+pub fn ratios(times: &Times, base: &Times) -> String {
     let minima = times.minimum() / base.minimum();
     let medians = times.median() / base.median();
     format!("{minima:.2} / {medians:.2}")
 }
 
 /// The table with fields of equal width, so that it can be read as it stands.
-fn padded(lines: &[Line]) -> String {
+pub fn padded<const N: usize>(lines: &[[String; N]]) -> String {
     let mut text = String::new();
     for line in lines {
         for (column, field) in line.iter().enumerate() {

@@ -1,7 +1,10 @@
 //! The programs that are measured derive the same key as the second program and leave in the matrix what they have to.
 
-use bench::measure::measure;
-use bench::programs::{self, Lent, Program};
+use bench::lent::{Lent, Pages};
+use bench::measure::{measure, measure_in};
+use bench::pages::measure_once;
+use bench::programs::{self, Program};
+use bench::table::inputs;
 use bench::{intrinsics, speed};
 use lyra2_reference::{derive_recorded, Inputs};
 
@@ -138,6 +141,35 @@ fn every_measured_program_leaves_what_is_due() {
     let times = measure(&SMALL, &all, 3);
     assert_eq!(times.len(), all.len());
     assert!(times.iter().all(|times| times.minimum() <= times.median()));
+}
+
+#[test]
+fn programs_are_measured_on_both_kinds_of_pages() {
+    let (all, _) = programs::all();
+    let all: Vec<&Program> = all.iter().collect();
+    let mut buffers = [Pages::Ordinary, Pages::Large].map(|pages| Lent::on(pages, &SMALL));
+    let times = measure_in(&mut buffers, &SMALL, &all, 2);
+    assert_eq!(times.len(), 2 * all.len());
+    assert!(times.iter().all(|times| times.count() == 2));
+    // Both have been derived in: neither keeps what it started with.
+    for lent in &mut buffers {
+        assert!(lent.key != [1; 32] && lent.matrix()[0] != 1);
+    }
+}
+
+#[test]
+fn the_matrix_starts_with_a_line_of_the_cache_or_a_large_page() {
+    let inputs = inputs(1024, 64);
+    let start = |pages| Lent::on(pages, &inputs).matrix().as_ptr().addr();
+    assert_eq!(start(Pages::Ordinary) % 64, 0);
+    assert_eq!(start(Pages::Large) % (2 << 20), 0);
+}
+
+#[test]
+fn a_caller_who_derives_once_is_measured_with_both_kinds_of_memory() {
+    let times = measure_once(&SMALL, 3);
+    assert_eq!(times.len(), 2);
+    assert!(times.iter().all(|times| times.count() == 3));
 }
 
 /// Measures a program that has to leave its end matrix, or else to wipe it.

@@ -1,7 +1,12 @@
-//! What the benchmark writes: the picture is well-formed and inside its frame, and dates are right.
+//! What the benchmark writes: the picture is well-formed and inside its frame, the tables on pages have the numbers
+//! that were measured, and dates are right.
 
 use bench::machine::day;
+use bench::measure::Times;
 use bench::plot::{svg, Line, Plot};
+use bench::programs::Program;
+use bench::{pages, table};
+use lyra2_memory::Granted;
 
 fn plot(names: &[&str]) -> Plot {
     let line = |(place, name): (usize, &&str)| Line {
@@ -177,4 +182,68 @@ fn days_are_dates() {
     for (days, date) in known {
         assert_eq!(day(days), date);
     }
+}
+
+fn program(name: &'static str, lyra2: bool) -> Program {
+    Program {
+        name,
+        lyra2,
+        keeps_matrix: false,
+        drawn: false,
+        derive: Box::new(|_, _| ()),
+    }
+}
+
+/// A thousand reduced calls, so that a microsecond in all is a nanosecond a call.
+#[test]
+fn a_line_has_both_kinds_of_pages_and_their_ratio() {
+    let inputs = table::inputs(50, 10);
+    let programs = [&program("first", true), &program("other function", false)];
+    let seconds = [
+        [3e-5, 2e-5, 4e-5],
+        [2.0, 1.0, 5.0],
+        [1.5e-5, 1e-5, 9e-5],
+        [3.0, 1.25, 4.0],
+    ];
+    let times = seconds.map(|seconds| Times::new(seconds.to_vec()));
+    let due = "\
+| program, ns a reduced call | ordinary pages | large pages | large to ordinary |
+| ---                        |           ---: |        ---: |              ---: |
+| first                      |    20.0 / 30.0 | 10.0 / 15.0 |       0.50 / 0.50 |
+| other function             |              – |           – |       1.25 / 1.50 |
+";
+    assert_eq!(pages::derivations(&inputs, &programs, &times), due);
+    let title = "\n**0.0457763671875 MiB:** T 1, R 50, C 10, 3 turns\n";
+    assert_eq!(table::title(&inputs, &times[0]), title);
+}
+
+#[test]
+fn a_caller_who_derives_once_has_a_line_for_each_matrix() {
+    let shapes = [table::inputs(1024, 64), table::inputs(16_384, 256)];
+    let times = [
+        [vec![0.004, 0.005, 0.006], vec![0.002, 0.003, 0.003]],
+        [vec![0.5], vec![0.625]],
+    ];
+    let times = times.map(|both| both.map(Times::new).to_vec());
+    let due = "\
+| matrix, ms              |           Vec |        Memory | Memory to Vec |
+| ---                     |          ---: |          ---: |          ---: |
+| 6 MiB: R 1024, C 64     |     4.0 / 5.0 |     2.0 / 3.0 |   0.50 / 0.60 |
+| 384 MiB: R 16384, C 256 | 500.0 / 500.0 | 625.0 / 625.0 |   1.25 / 1.25 |
+";
+    assert_eq!(pages::callers(&shapes, &times), due);
+}
+
+#[test]
+fn the_systems_setting_and_what_it_granted_are_words() {
+    assert_eq!(pages::chosen("always [madvise] never\n"), "madvise");
+    assert_eq!(pages::chosen("[always] madvise never\n"), "always");
+    assert_eq!(pages::chosen(""), "unknown");
+    let granted = Granted {
+        large_pages: true,
+        kept_from_dumps: true,
+        locked: false,
+    };
+    let due = "large pages yes, kept from core dumps yes, locked no";
+    assert_eq!(pages::words(granted), due);
 }

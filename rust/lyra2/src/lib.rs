@@ -46,10 +46,10 @@
 //!
 //! # Memory
 //!
-//! Any words can be lent: a `Vec`, an array, or a [`Memory`], which [`Parameters::matrix`] and [`Parameters::record`] give
-//! in the right size. For a [`Memory`] the system is asked for large pages, which make a derivation over some megabytes
-//! faster, and to keep the words from core dumps and from swapping; it serves whatever the system refuses of that. When
-//! dropped it is wiped and given back, so that a recorded derivation in it leaves nothing behind.
+//! Any words can be lent: a `Vec`, an array, or a [`Memory`], which [`Parameters::matrix`] and [`Parameters::record`]
+//! give in the right size. For a [`Memory`] the system is asked for large pages, which make a derivation over some
+//! megabytes faster, and to keep the words from core dumps and from swapping; it serves whatever the system refuses of
+//! that. When dropped it is wiped and given back, so that a recorded derivation in it leaves nothing behind.
 //!
 //! ```
 //! use lyra2::{derive_recorded, Parameters};

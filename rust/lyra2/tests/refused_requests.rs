@@ -1,5 +1,5 @@
-//! Memory serves whatever the system refuses of large pages, dumps and locking. This program's own `madvise` and `mlock`
-//! take requests or refuse them as a test says.
+//! Memory serves whatever the system refuses of large pages, dumps and locking. This program's own `madvise` and
+//! `mlock` take requests or refuse them as a test says.
 
 use lyra2::{derive, Granted, Parameters};
 use lyra2_reference::Inputs;
@@ -92,7 +92,7 @@ fn derive_refused(parameters: Parameters, refused: &[Request]) -> (Granted, Vec<
     (matrix.granted(), asked.collect())
 }
 
-/// One test, for the stand-ins serve one at a time.
+/// It is one test, since the stand-ins keep their requests for one at a time.
 #[test]
 fn memory_serves_whatever_is_refused() {
     use Request::{KeepFromDumps, LargePages, Lock};

@@ -66,7 +66,8 @@ impl Memory {
         let mapping = bytes.checked_add(spare).and_then(Mapping::new);
         let mapping = mapping.ok_or(NoMemory { bytes: Some(bytes) })?;
         let part = mapping.part(bytes, boundary);
-        // The fields are filled in this order: pages that are locked are there, and cannot become large ones.
+        // The fields are filled in this order: locking fetches the pages, and those that are there stay ordinary ones
+        // until the system gets to joining them, if it ever does.
         let granted = Granted {
             large_pages: is_large && part.ask_for_large_pages(),
             kept_from_dumps: part.keep_from_dumps(),

@@ -1,5 +1,5 @@
-//! The compiler keeps the zeros that are stored just before a block is freed, though no code reads them. They are looked
-//! for by the kernel's view of the process, since the program itself may not read freed memory.
+//! The compiler keeps the zeros that are stored just before a block is freed, though no code reads them. They are
+//! looked for by the kernel's view of the process, since the program itself may not read freed memory.
 
 use lyra2_memory::Wiping;
 use std::alloc::{GlobalAlloc, Layout, System};

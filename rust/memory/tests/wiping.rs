@@ -32,20 +32,24 @@ impl Watching {
 // SAFETY: everything is handed on to the system's allocator; a freed block is still there when it is looked at.
 unsafe impl GlobalAlloc for Watching {
     unsafe fn alloc(&self, layout: Layout) -> *mut u8 {
+        // SAFETY: what is asked of the caller is the same.
         unsafe { System.alloc(layout) }
     }
 
     unsafe fn dealloc(&self, block: *mut u8, layout: Layout) {
+        // SAFETY: the block has so many bytes, and its owner has given it back.
         let is_zero = |place| unsafe { block.add(place).read_volatile() == 0 };
         let left = !(0..layout.size()).all(is_zero);
         self.left.fetch_add(left.into(), Ordering::Relaxed);
         let is_ours = layout.size() == SIZE;
         self.freed.fetch_add(is_ours.into(), Ordering::Relaxed);
+        // SAFETY: what is asked of the caller is the same.
         unsafe { System.dealloc(block, layout) }
     }
 
     unsafe fn realloc(&self, block: *mut u8, layout: Layout, size: usize) -> *mut u8 {
         self.moved.fetch_add(1, Ordering::Relaxed);
+        // SAFETY: what is asked of the caller is the same.
         unsafe { System.realloc(block, layout, size) }
     }
 }
