@@ -16,12 +16,13 @@ from=()
     from=(--offline --config 'source.crates-io.replace-with="debian"' --config "source.debian.directory=\"$folder\"")
 
 status=0
-cargo "${from[@]}" "$1" --manifest-path "$manifest" "${@:2}" || status=$?
+# After the subcommand, since one that is a program of its own, as clippy is, gets only what follows it.
+cargo "$1" "${from[@]}" --manifest-path "$manifest" "${@:2}" || status=$?
 [ "$status" -ne 0 ] || exit 0
 
 # Whether it failed for want of the crates is asked apart, without the network, so that cargo itself keeps the terminal.
 [ -n "$folder" ] || from=(--offline)
-reason=$(cargo "${from[@]}" tree --manifest-path "$manifest" 2>&1 >/dev/null </dev/null) && exit "$status"
+reason=$(cargo tree "${from[@]}" --manifest-path "$manifest" 2>&1 >/dev/null </dev/null) && exit "$status"
 case $folder:$reason in
 /*'(locked to '* | *'changed between lock files'*)
     {

@@ -80,8 +80,8 @@ manifest="$work/a repository/rust/Cargo.toml"
 crate_packages >"$work/installed"
 call run --bin bench -- plot 'a file'
 same 'status' 0 "$status"
-called --offline --config 'source.crates-io.replace-with="debian"' --config 'source.debian.directory="/a/registry"' \
-    run --manifest-path "$manifest" --bin bench -- plot 'a file'
+called run --offline --config 'source.crates-io.replace-with="debian"' --config 'source.debian.directory="/a/registry"' \
+    --manifest-path "$manifest" --bin bench -- plot 'a file'
 for package in $(crate_packages); do
     crate_packages | grep -vx "$package" >"$work/installed"
     call build
