@@ -311,7 +311,8 @@ fn cost_of_the_largest_numbers() {
         c: 256,
     };
     assert_eq!(cost(&accepted), 0);
-    let places: [(u32, fn(&mut Parameters) -> &mut u64); 6] = [
+    type Place = fn(&mut Parameters) -> &mut u64;
+    let places: [(u32, Place); 6] = [
         (1, |given| &mut given.key_len),
         (2, |given| &mut given.password_len),
         (10, |given| &mut given.salt_len),
