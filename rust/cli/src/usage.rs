@@ -28,11 +28,21 @@ pub fn failure(error: &clap::Error, arguments: &[OsString], command: Option<&Com
     })
 }
 
+/// What is not in the form of a command's name is not repeated either.
 fn unknown_command(error: &clap::Error) -> String {
-    let name = text(error, ContextKind::InvalidSubcommand);
+    let given = text(error, ContextKind::InvalidSubcommand);
+    let is_letter = |letter: char| letter.is_ascii_alphabetic();
+    let is_name = given.starts_with(is_letter)
+        && given
+            .chars()
+            .all(|letter| is_letter(letter) || letter == '-');
+    let name = match is_name {
+        true => format!("unknown command {given:?}"),
+        false => "unknown command".to_string(),
+    };
     match text(error, ContextKind::SuggestedSubcommand).as_str() {
-        "" => format!("unknown command {name:?}; {LIST}"),
-        near => format!("unknown command {name:?}; is {near} meant?"),
+        "" => format!("{name}; {LIST}"),
+        near => format!("{name}; is {near} meant?"),
     }
 }
 
@@ -44,7 +54,7 @@ fn unknown_argument(
 ) -> String {
     let given = text(error, ContextKind::InvalidArg);
     if given.starts_with('-') && !is_operand(&given, arguments) {
-        let name = given.split('=').next().unwrap_or_default();
+        let name = option_name(&given);
         return match text(error, ContextKind::SuggestedArg).as_str() {
             "" => format!("unknown option {name:?}"),
             near => format!("unknown option {name:?}; is {near} meant?"),
@@ -62,6 +72,14 @@ fn unknown_argument(
         _ => operands.join(" "),
     };
     format!("an argument too many; {} takes {due}", command.get_name())
+}
+
+/// The part of an option that is its name: up to `=`, or a dash and a letter.
+fn option_name(given: &str) -> String {
+    match given.starts_with("--") {
+        true => given.chars().take_while(|letter| *letter != '=').collect(),
+        false => given.chars().take(2).collect(),
+    }
 }
 
 /// Whether an argument stands after `--`, where all are operands.

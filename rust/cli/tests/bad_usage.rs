@@ -155,6 +155,11 @@ fn secrets_in_the_wrong_place() {
         "compare one two hunter2".to_string(),
         "compare one two -- --hunter2".to_string(),
         "completions hunter2".to_string(),
+        "hunter2".to_string(),
+        "-- --password=hunter2".to_string(),
+        "help hunter2".to_string(),
+        "help --password=hunter2".to_string(),
+        "-phunter2 derive".to_string(),
     ] {
         let found = lyra2(&words(&line), b"pass").failure();
         assert!(!found.contains("hunter"), "{found}");
