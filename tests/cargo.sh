@@ -27,6 +27,22 @@ while read -r crate _; do
     grep -q "^| $crate | $version" docs/DEPENDENCIES.md || { echo "docs/DEPENDENCIES.md does not have $crate $version"; exit 1; }
 done <<<"$needed_crates"
 
+# Those that these bring, in the order of the page's table: in the program, and while it is built. Over the registry they may be others.
+crates_of() { # EDGES
+    scripts/cargo.sh tree --quiet --package lyra2-cli --edges "$1" --prefix none --format '{p}' 2>/dev/null | grep -v '(/' | sed 's/ .*//' | sort -u
+}
+listed() { # COLUMN
+    awk -F '|' -v column="$1" '/^\| Licence \| In/ { inside = 1; next } /^$/ { inside = 0 } inside && !/---/ { print $column }' docs/DEPENDENCIES.md |
+        tr -s ', ' '\n' | grep . | sort
+}
+if [ -n "$folder" ]; then
+    in_program=$(crates_of normal,no-proc-macro)
+    same 'crates of the program' "$in_program" "$(listed 3)"
+    same 'crates of the build' "$(comm -13 <(echo "$in_program") <(crates_of normal,build))" "$(listed 4)"
+    grep -q "they are $(crates_of normal,build | wc -l) crates, of which the program holds $(wc -l <<<"$in_program");" docs/DEPENDENCIES.md ||
+        { echo 'docs/DEPENDENCIES.md counts otherwise'; exit 1; }
+fi
+
 # ---- a made-up machine: $work/installed are the packages, $work/status is how cargo ends, $work/reason what it says offline
 mkdir -p "$work/bin" "$work/elsewhere" "$work/a repository/scripts"
 cp scripts/{cargo,needed}.sh "$work/a repository/scripts"
