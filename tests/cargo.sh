@@ -13,10 +13,16 @@ same() { # WHAT EXPECTED FOUND
 }
 
 # ---- the lists: what rust/*/Cargo.toml take from elsewhere is in needed.sh, and DEPENDENCIES.md has the versions of Debian 12
-outside=$(awk '
-    /^\[/ { inside = /dependencies\]$/ }
-    inside && /^[a-z]/ && !/path *=/ { name = $1; sub(/[.=].*/, "", name); print name }' rust/Cargo.toml rust/*/Cargo.toml | sort -u)
-for crate in $outside; do
+outside() { # FILE..
+    awk '
+        /^\[/ { inside = /dependencies\]$/ }
+        inside && /^[a-z]/ && !/path *=/ { name = $1; sub(/[.=].*/, "", name); print name }' "$@" | sort -u
+}
+others=$(printf '%s\n' rust/Cargo.toml rust/*/Cargo.toml | grep -vx rust/cli/Cargo.toml)
+# The files are words of their own.
+# shellcheck disable=SC2086
+same 'crates from elsewhere outside of rust/cli' '' "$(outside $others)"
+for crate in $(outside rust/cli/Cargo.toml); do
     grep -q "^$crate " <<<"$needed_crates" || [ -d "rust/$crate" ] || { echo "scripts/needed.sh does not name $crate"; exit 1; }
 done
 folder=
