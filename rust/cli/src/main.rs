@@ -34,6 +34,7 @@ use std::process::ExitCode;
 static ALLOCATOR: Wiping = Wiping(System);
 
 fn main() -> ExitCode {
+    secret::forbid_core_dumps();
     let arguments: Vec<OsString> = std::env::args_os().collect();
     let answered = commands::answer(&arguments);
     let printed = answered.and_then(|outcome| print(outcome).map_err(|failure| (None, failure)));

@@ -10,7 +10,7 @@ use common::{command, hex, words, TemporaryFile};
 use lyra2_reference::{derive_recorded, Inputs};
 use std::fs::File;
 use std::io::{PipeReader, PipeWriter, Read, Seek, SeekFrom, Write};
-use std::process::Stdio;
+use std::process::{Command, Stdio};
 use std::time::{Duration, Instant};
 
 const PASSWORD: &[u8] = b"a password to search for";
@@ -148,6 +148,38 @@ fn of_a_password_from_a_file_nothing_is_left() {
     let file = TemporaryFile::holding(PASSWORD);
     let line = line("derive", &format!("--password-file {}", file.name()));
     assert_eq!(left_by(&line, b"", &key_text()), NOTHING);
+}
+
+/// The limits of a process that started without one on core dumps.
+#[test]
+fn no_core_dump_is_written() {
+    let program = env!("CARGO_BIN_EXE_lyra2");
+    let script = format!(
+        "ulimit -c unlimited; exec '{program}' {}",
+        line("derive", "")
+    );
+    let mut child = Command::new("sh")
+        .args(["-c", &script])
+        .stdin(Stdio::piped())
+        .stdout(Stdio::null())
+        .spawn()
+        .expect("a shell");
+    let limits = format!("/proc/{}/limits", child.id());
+    let is_set = || {
+        let limits = std::fs::read_to_string(&limits).expect("a process of ours");
+        let line = limits
+            .lines()
+            .find_map(|line| line.strip_prefix("Max core file size"));
+        words(line.expect("a limit")) == ["0", "0", "bytes"]
+    };
+    // The program waits for its password.
+    let began = Instant::now();
+    while !is_set() {
+        assert!(began.elapsed() < PATIENCE, "core dumps are allowed");
+        std::thread::sleep(Duration::from_millis(20));
+    }
+    child.kill().expect("a process of ours");
+    child.wait().expect("the program ends");
 }
 
 /// A trial keeps state and matrix, until they are in its file.
