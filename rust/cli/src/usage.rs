@@ -74,10 +74,10 @@ fn unknown_argument(
     format!("an argument too many; {} takes {due}", command.get_name())
 }
 
-/// The part of an option that is its name: up to `=`, or a dash and a letter.
+/// The name of an option: clap leaves its value out, but takes letters that are no text for a part of the name.
 fn option_name(given: &str) -> String {
     match given.starts_with("--") {
-        true => given.chars().take_while(|letter| *letter != '=').collect(),
+        true => given.to_string(),
         false => given.chars().take(2).collect(),
     }
 }

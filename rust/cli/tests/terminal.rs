@@ -167,6 +167,12 @@ fn where_standard_error_is_no_terminal_nothing_is_shown() {
     assert_eq!(errors.bytes(), b"");
 }
 
+/// Whether a bar was shown with these words and then cleared, so that the line is free again.
+fn was_shown_and_cleared(shown: &str, bar: &str, words: &str) -> bool {
+    let after = shown.rsplit_once(bar).map(|(_, after)| after);
+    after.is_some_and(|after| after.contains(words) && after.ends_with("\u{1b}[2K"))
+}
+
 /// Files of some 100 MB: their bytes are counted, and the results are alone on standard output.
 #[test]
 fn large_files_show_how_far_they_are() {
@@ -183,8 +189,8 @@ fn large_files_show_how_far_they_are() {
     );
     assert_eq!(status, Some(0), "{shown}");
     assert!(
-        shown.contains("writing [") && shown.contains(" of 96.00 MiB"),
-        "{shown}"
+        was_shown_and_cleared(&shown, "writing [", " of 96.00 MiB"),
+        "{shown:?}"
     );
     let bytes = file.bytes();
     let sum: Vec<u8> = bytes[bytes.len() - 8..].iter().rev().copied().collect();
@@ -193,8 +199,8 @@ fn large_files_show_how_far_they_are() {
     let (status, shown) = typed(&format!("lyra2 compare {name} {name} >{out}"), &[]);
     assert_eq!(status, Some(0), "{shown}");
     assert!(
-        shown.contains("reading [") && shown.contains(" of 192.00 MiB"),
-        "{shown}"
+        was_shown_and_cleared(&shown, "reading [", " of 192.00 MiB"),
+        "{shown:?}"
     );
     assert_eq!(result.bytes(), b"equal\n");
 }
