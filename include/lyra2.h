@@ -6,11 +6,13 @@
  *               the call's order, which enum lyra2_refusal gives.
  * Memory        The caller lends all of it. There is no heap and no global state, nothing to set up, nothing to free.
  * Written       Accepted: what the declaration says, and nothing else. Refused: the answer's fields, which are `same`,
- *               the counts, the state and `row1`, become 0; nothing else that is lent is read or written.
+ *               the counts, the state, `row1`, a line's values and its length, become 0; nothing else that is lent is
+ *               written.
  * Before        What a call writes may hold anything beforehand. No answer depends on it.
  * Pointers      Never null, not even with a length of 0, and good for as many elements as the length says.
- *               Words and `row1` lie at addresses that 8 divides, `same` at one that 4 divides, bytes anywhere.
- * Overlap       What a call writes overlaps nothing else that it is lent. Password, salt and a stored key may overlap.
+ *               Words, `row1`, a line's values and its length lie at addresses that 8 divides, `same` at one that 4
+ *               divides, bytes anywhere.
+ * Overlap       What a call writes overlaps nothing else that it is lent. What it only reads may overlap.
  * Threads       Any number of calls at once, each with its own memory to write. Nobody else writes what a call is lent.
  * Time          Depends on the lengths and numbers, and on the rows and columns that the visits pick, which in Lyra2
  *               depend on the password. The check compares every byte, whatever it finds.
@@ -50,6 +52,18 @@ extern "C" {
 #define LYRA2_COLUMNS_MAX 256
 #define LYRA2_ROW0_MIN 3 /* the walk question; the most is rows - 1 */
 
+/*
+ * A login line as text. No line within the limits is longer than LYRA2_LINE_MAX bytes, so outputs of LYRA2_LINE_MAX,
+ * LYRA2_SALT_MAX and LYRA2_KEY_MAX bytes are never too short. The values of a line, by their place:
+ */
+#define LYRA2_LINE_MAX 1480
+#define LYRA2_LINE_VALUES 5
+#define LYRA2_LINE_TIME 0
+#define LYRA2_LINE_ROWS 1
+#define LYRA2_LINE_COLUMNS 2
+#define LYRA2_LINE_SALT_LEN 3
+#define LYRA2_LINE_KEY_LEN 4
+
 #define LYRA2_STATE_WORDS 16
 #define LYRA2_CELL_WORDS 12
 #define LYRA2_STACK_BYTES 2048
@@ -73,6 +87,8 @@ extern "C" {
  *     lyra2_derive, lyra2_check    1, 2, 3, 10, 4, 5, 6, 7
  *     lyra2_cost                   1, 2, 3, 10, 4, 5, 6
  *     lyra2_walk                   5, 9
+ *     lyra2_line_read              11, 1, 3, 10, 4, 5, 6, 12
+ *     lyra2_line_write             1, 3, 10, 4, 5, 6, 12
  */
 enum lyra2_refusal {
     LYRA2_ACCEPTED = 0,
@@ -85,7 +101,9 @@ enum lyra2_refusal {
     LYRA2_REFUSED_MATRIX = 7,
     LYRA2_REFUSED_RECORD = 8,
     LYRA2_REFUSED_ROW0 = 9,
-    LYRA2_REFUSED_SALT_TOO_LONG = 10
+    LYRA2_REFUSED_SALT_TOO_LONG = 10,
+    LYRA2_REFUSED_LINE = 11,
+    LYRA2_REFUSED_OUTPUT = 12
 };
 
 /* What an answer says, in words. */
@@ -103,6 +121,8 @@ static inline const char *lyra2_sentence(uint32_t answer)
     case LYRA2_REFUSED_RECORD: return "the lent record is too short for the time cost, rows and columns";
     case LYRA2_REFUSED_ROW0: return "Setup revisits a row only for row 3 to the last";
     case LYRA2_REFUSED_SALT_TOO_LONG: return "the salt may have at most 64 bytes";
+    case LYRA2_REFUSED_LINE: return "the line is not of the form $lyra2$t=T,r=R,c=C$SALT$KEY";
+    case LYRA2_REFUSED_OUTPUT: return "a lent output is too short";
     default: return "no answer has this number";
     }
 }
@@ -159,6 +179,27 @@ LYRA2_ANSWER uint32_t lyra2_cost(
 
 /* Tells which row Setup revisits while it fills row0. Writes *row1. */
 LYRA2_ANSWER uint32_t lyra2_walk(size_t rows, size_t row0, size_t *row1);
+
+/*
+ * Reads a login line. Writes its salt and its key at the start of the two outputs, whose remaining bytes keep their
+ * contents, and its values: T, R, C and the lengths of salt and key.
+ */
+LYRA2_ANSWER uint32_t lyra2_line_read(
+    const uint8_t *line, size_t line_len,
+    uint8_t *salt, size_t salt_room,
+    uint8_t *key, size_t key_room,
+    size_t values[LYRA2_LINE_VALUES]);
+
+/*
+ * Writes a login line at the start of the output, whose remaining bytes keep their contents, and its length. There is
+ * no zero byte and no newline behind it.
+ */
+LYRA2_ANSWER uint32_t lyra2_line_write(
+    size_t time, size_t rows, size_t columns,
+    const uint8_t *salt, size_t salt_len,
+    const uint8_t *key, size_t key_len,
+    uint8_t *line, size_t line_room,
+    size_t *line_len);
 
 #ifdef __cplusplus
 }

@@ -64,4 +64,27 @@ extern "C" {
     ) -> u32;
 
     pub fn lyra2_walk(rows: usize, row0: usize, row1: *mut usize) -> u32;
+
+    pub fn lyra2_line_read(
+        line: *const u8,
+        line_len: usize,
+        salt: *mut u8,
+        salt_room: usize,
+        key: *mut u8,
+        key_room: usize,
+        values: *mut [usize; 5],
+    ) -> u32;
+
+    pub fn lyra2_line_write(
+        time: usize,
+        rows: usize,
+        columns: usize,
+        salt: *const u8,
+        salt_len: usize,
+        key: *const u8,
+        key_len: usize,
+        line: *mut u8,
+        line_room: usize,
+        line_len: *mut usize,
+    ) -> u32;
 }

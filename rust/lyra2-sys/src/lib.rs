@@ -1,8 +1,8 @@
 //! The C interface of the proved library, called with slices.
 //!
 //! Each function returns 0 or the number of a refusal and leaves the places for the answer to the caller, who
-//! can so see what a call does to them: after a refusal `same`, the counts, the state and `row1` are 0, and key,
-//! matrix and record are what they were. The crate `lyra2` turns the numbers into results.
+//! can so see what a call does to them: after a refusal `same`, the counts, the state, `row1`, a line's values and its
+//! length are 0, and all other memory is what it was. The crate `lyra2` turns the numbers into results.
 //!
 //! All functions here are safe to call. The proved functions ask nothing of their arguments, read and write
 //! only the elements that a pointer's length covers, keep no pointer, and end. What is left to Rust is that
@@ -18,6 +18,9 @@ pub type Counts = [u64; 3];
 
 /// The sixteen words of the sponge.
 pub type State = [u64; 16];
+
+/// The values of a login line that are numbers: T, R, C, the salt's length and the key's.
+pub type LineValues = [usize; 5];
 
 /// What a derivation is made from, apart from the lent buffers.
 #[derive(Clone, Copy)]
@@ -155,4 +158,56 @@ pub fn cost(sizes: Sizes, counts: &mut Counts) -> u32 {
 pub fn walk(rows: usize, row0: usize, row1: &mut usize) -> u32 {
     // SAFETY: the pointer is to a number that this call alone borrows.
     unsafe { foreign::lyra2_walk(rows, row0, row1) }
+}
+
+/// Reads a login line: salt and key become the first bytes of theirs, the rest of both is kept.
+pub fn line_read(line: &[u8], salt: &mut [u8], key: &mut [u8], values: &mut LineValues) -> u32 {
+    // SAFETY: each pointer comes from a slice and goes with that slice's length, `values` has the five numbers
+    // that the call may write, and salt, key and values are borrowed by this call alone.
+    unsafe {
+        foreign::lyra2_line_read(
+            line.as_ptr(),
+            line.len(),
+            salt.as_mut_ptr(),
+            salt.len(),
+            key.as_mut_ptr(),
+            key.len(),
+            values,
+        )
+    }
+}
+
+/// What a login line is made from.
+#[derive(Clone, Copy)]
+pub struct LineParts<'a> {
+    /// The time cost T.
+    pub time: usize,
+    /// The number of rows R.
+    pub rows: usize,
+    /// The number of columns C.
+    pub columns: usize,
+    /// The salt.
+    pub salt: &'a [u8],
+    /// The key.
+    pub key: &'a [u8],
+}
+
+/// Writes a login line: it becomes the first bytes of `line`, the rest is kept, and `line_len` becomes its length.
+pub fn line_write(parts: LineParts, line: &mut [u8], line_len: &mut usize) -> u32 {
+    // SAFETY: each pointer comes from a slice and goes with that slice's length, or is to a number; line and line_len
+    // are borrowed by this call alone.
+    unsafe {
+        foreign::lyra2_line_write(
+            parts.time,
+            parts.rows,
+            parts.columns,
+            parts.salt.as_ptr(),
+            parts.salt.len(),
+            parts.key.as_ptr(),
+            parts.key.len(),
+            line.as_mut_ptr(),
+            line.len(),
+            line_len,
+        )
+    }
 }
