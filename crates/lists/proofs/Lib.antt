@@ -6,3 +6,4 @@ pub mod LoopLaws
 pub mod Parts
 pub mod Traces
 pub mod Cleared
+pub mod EveryLaws

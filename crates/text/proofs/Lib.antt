@@ -1,3 +1,2 @@
--- The laws of text in a buffer and of numbers in decimal digits.
+-- The laws of text in a buffer.
 pub mod Appending
-pub mod Decimal

@@ -1,2 +1,2 @@
--- Text in a buffer, and numbers in decimal digits.
+-- Text in a buffer.
 pub mod Text

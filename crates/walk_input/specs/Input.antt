@@ -4,10 +4,10 @@ use mathlib.Core.Bool.{cond, not, _&&_}
 use mathlib.Core.List.{List}
 use lib.Dec.{leb, eqb}
 use lib.ListN.{length, getD, take}
-use Rattle.text.specs.Text.{numberFrom}
+use Rattle.decimal.specs.Decimal.{numberOf}
 
 -- the number that up to five digits write, the first of them not 0, with a newline behind them and nothing more; any other input is 0, which is outside the limits
 unfoldable pub rowsRead : List ℕ → ℕ
 rowsRead input =
     let n = length input - 1 in
-    cond (leb 1 n && leb n 5 && not (eqb (getD input 0 0) 48) && eqb (getD input n 0) 10) (numberFrom 0 (take n input)) 0
+    cond (leb 1 n && leb n 5 && not (eqb (getD input 0 0) 48) && eqb (getD input n 0) 10) (numberOf (take n input)) 0

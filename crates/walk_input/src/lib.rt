@@ -21,5 +21,5 @@ pub fn rows_read(input: &[u8]) -> usize
     if input[n] != 10 {
         return 0;
     }
-    text::number(&input[..n])
+    decimal::number(&input[..n])
 }

@@ -2,7 +2,7 @@
 use Prim.Native.Nat.{ℕ, zero, suc, _+_}
 use mathlib.Core.List.{List, [], _∷_, _++_}
 use Rattle.setup_order.specs.SetupOrder.{row1Of}
-use Rattle.text.specs.Text.{decimal}
+use Rattle.decimal.specs.Decimal.{decimal}
 
 -- row0, a space, row1, a newline
 unfoldable pub line : ℕ → ℕ → List ℕ

@@ -3,18 +3,18 @@ ghost use Prim.Native.Nat.{_+_, _-_, _≤_, _<_};
 ghost use lib.ListN.{length};
 ghost use Rattle.text.specs.Text.{Appended};
 ghost use Rattle.walk_lines.specs.Lines.{line, stepLines, outputBytes};
+use decimal::append_short;
 use setup_order::Order;
 use text::append;
-use text::append_decimal;
 
 fn append_line(out: &mut [u8], at: usize, row0: usize, row1: usize) -> usize
     requires { ⌜ (row0 < 100000) × (row1 < 100000) × (at + 12 ≤ length (now out)) ⌝ }
     ensures { λ r. ⌜ Appended (now (out .entry)) (now (out .exit)) at (line row0 row1) r ⌝ }
     ensures { λ r. ⌜ r ≤ at + 12 ⌝ }
 {
-    let first = append_decimal(out, at, row0);
+    let first = append_short(out, at, row0);
     let space = append(out, first, b" ");
-    let second = append_decimal(out, space, row1);
+    let second = append_short(out, space, row1);
     append(out, second, b"\n")
 }
 

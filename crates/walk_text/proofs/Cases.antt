@@ -3,7 +3,7 @@ use mathlib.Core.Path.{_≡_, refl}
 use mathlib.Core.List.{[], _∷_, _++_}
 use Rattle.refusals.specs.Checks.{first}
 use Rattle.setup_order.specs.SetupOrder.{firstOrder, moved, newWindow, nextOrder, order, row1Of}
-use Rattle.text.specs.Text.{decimalUpTo, numberFrom}
+use Rattle.decimal.specs.Decimal.{decimalUpTo, numberFrom}
 use Rattle.walk_input.specs.Input.{rowsRead}
 use Rattle.walk_lines.specs.Lines.{line, stepLines}
 use Rattle.walk_text.specs.Output.{refusedLine, walkOutput}

@@ -4,7 +4,7 @@ use mathlib.Core.Bool.{cond}
 use mathlib.Core.List.{List, [], _∷_, _++_}
 use lib.Dec.{eqb}
 use Rattle.refusals.specs.Checks.{first, rowsCheck}
-use Rattle.text.specs.Text.{decimal}
+use Rattle.decimal.specs.Decimal.{decimal}
 use Rattle.walk_input.specs.Input.{rowsRead}
 use Rattle.walk_lines.specs.Lines.{stepLines}
 

@@ -6,8 +6,8 @@ ghost use Rattle.io.specs.Counts.{Counts};
 ghost use Rattle.text.specs.Text.{Appended};
 ghost use Rattle.walk_lines.specs.Lines.{outputBytes};
 ghost use Rattle.walk_text.specs.Output.{refusedLine, walkOutput};
+use decimal::append_short;
 use text::append;
-use text::append_decimal;
 use walk_input::rows_read;
 use walk_lines::put_steps;
 
@@ -19,7 +19,7 @@ fn put_refused(out: &mut [u8], number: u32) -> usize
     ensures { λ r. ⌜ Appended (now (out .entry)) (now (out .exit)) 0 (refusedLine number) r ⌝ }
 {
     let word = append(out, 0, b"refused ");
-    let end = append_decimal(out, word, number as usize);
+    let end = append_short(out, word, number as usize);
     append(out, end, b"\n")
 }
 

@@ -11,7 +11,7 @@ append-line-spec =
     tie.close
     (tie.spec (omega arith) (omega arith) (omega arith) (omega arith) (omega arith) (omega arith) (omega arith)
     (λ c.
-    let row0 = c .before .before .before .before .before .before .before .before .before .before .before .before .before .before .before .before .append-decimal .ensures in
+    let row0 = c .before .before .before .before .before .before .before .before .before .before .before .before .before .before .before .before .append-short .ensures in
     let space = c .before .before .before .before .before .before .before .before .before .before .before .append .ensures in
-    let row1 = c .before .before .before .before .before .before .before .append-decimal2 .ensures in
+    let row1 = c .before .before .before .before .before .before .before .append-short2 .ensures in
     (row0 .0 then space then row1 .0 then c .before .before .append2 .ensures, omega arith)))

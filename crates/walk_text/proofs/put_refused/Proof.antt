@@ -12,5 +12,5 @@ put-refused-spec =
     (tie.spec (omega arith) (omega arith) (omega arith) (omega arith) (omega arith) (omega arith)
     (λ c.
     let word = c .before .before .before .before .before .before .before .before .before .before .before .append .ensures in
-    let number = c .before .before .before .before .before .before .before .append-decimal .ensures in
+    let number = c .before .before .before .before .before .before .before .append-short .ensures in
     word then number .0 then c .before .before .append2 .ensures))
