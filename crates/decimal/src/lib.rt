@@ -67,11 +67,11 @@ fn all_digits(text: &[u8]) -> bool
 {
     let mut i = 0;
     while i < text.len() {
-        let b = text[i];
-        if b < 48 {
+        let byte = text[i];
+        if byte < 48 {
             return false;
         }
-        if 57 < b {
+        if 57 < byte {
             return false;
         }
         i += 1;
@@ -83,7 +83,7 @@ fn all_digits(text: &[u8]) -> bool
 pub fn is_number(text: &[u8]) -> bool
     ensures { λ r. ⌜ r ≡ isNumber (now (text .entry)) ⌝ }
 {
-    if text.len() == 0 {
+    if text.len() < 1 {
         return false;
     }
     if text.len() == 1 {

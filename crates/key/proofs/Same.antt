@@ -1,4 +1,4 @@
--- The comparison of two lists of bytes: it holds exactly for equal lists, and the OR of the XORs of their bytes decides it.
+-- The comparison of two lists of bytes: the OR of the XORs of their bytes decides it.
 -- Assumes nothing.
 use mathlib.Core.Path.{_≡_, refl, sym, ap, ap₂, _∙_}
 use mathlib.Core.Bool.{Bool, true, false, _&&_, false≢true, and-eq-true-iff, and-true, and-assoc}
@@ -13,22 +13,6 @@ use lib.Dec.{eqb, eqb·suc-zero}
 use lib.Bits.{bitOr, bitXor, or-zero-l, or-add-and, and-le-l, and-le-r, xor-add-and, xor-self}
 use borrow.Author.Tests.{eqb-true, eqb-false, eq-eqb, ne-eqb}
 use Rattle.key.specs.Key.{sameBytes}
-
--- ---- sameBytes is equality
-
-pub same-of-equal : (xs : List ℕ) → sameBytes xs xs ≡ true
-unfolding sameBytes
-same-of-equal [] = refl
-same-of-equal (x ∷ xs) = ap₂ _&&_ (eq-eqb x x refl) (same-of-equal xs)
-
-pub equal-of-same : (xs ys : List ℕ) → sameBytes xs ys ≡ true → xs ≡ ys
-unfolding sameBytes
-equal-of-same [] [] e = refl
-equal-of-same [] (y ∷ ys) e = absurd (false≢true e)
-equal-of-same (x ∷ xs) [] e = absurd (false≢true e)
-equal-of-same (x ∷ xs) (y ∷ ys) e =
-    let h = and-eq-true-iff (eqb x y) (sameBytes xs ys) .0 e in
-    ap₂ (λ (a : ℕ) (l : List ℕ). a ∷ l) (eqb-true x y (h .0)) (equal-of-same xs ys (h .1))
 
 -- ---- a byte more
 

@@ -1,14 +1,16 @@
--- A test of each element: what it tells of the elements, and the steps of a loop that makes it. Assumes nothing.
+-- A test of each element: what it tells of the elements, and the steps of a loop that makes it; and the sameness of lists. Assumes nothing.
 use mathlib.Core.Path.{_≡_, refl, sym, ap, ap₂, _∙_}
 use Prim.Native.Nat.{ℕ, zero, suc, _+_, _≤_, _<_}
 use native.Mathlib.Nat.{not-suc-le-zero, le-of-suc-le-suc}
 use native.Mathlib.Numerals.{add-one}
 use native.Mathlib.Omega.{arith}
-use mathlib.Core.Bool.{Bool, true, false, _&&_, and-eq-true-iff}
+use mathlib.Core.Bool.{Bool, true, false, _&&_, false≢true, and-eq-true-iff}
 use mathlib.Core.List.{List, [], _∷_, _++_}
 use lib.ListN.{length, getD, drop, drop-of-length-le}
 use lib.Seq.{drop-cons}
-use Rattle.lists.specs.Every.{every}
+use lib.Dec.{eqb}
+use borrow.Author.Tests.{eqb-true, eq-eqb}
+use Rattle.lists.specs.Every.{every, sameBytes}
 
 module _ (p : ℕ → Bool) where
   pub every-at : (xs : List ℕ) → every p xs ≡ true → (i : ℕ) → i < length xs → p (getD xs i 0) ≡ true
@@ -50,3 +52,19 @@ module _ (p : ℕ → Bool) where
     pub passed-end : length xs ≤ i → true ≡ every p xs
     unfolding every
     passed-end h = ap (every p) (sym (drop-of-length-le xs {i = i} h)) ∙ q .others
+
+-- ---- sameBytes is equality
+
+pub same-of-equal : (xs : List ℕ) → sameBytes xs xs ≡ true
+unfolding sameBytes
+same-of-equal [] = refl
+same-of-equal (x ∷ xs) = ap₂ _&&_ (eq-eqb x x refl) (same-of-equal xs)
+
+pub equal-of-same : (xs ys : List ℕ) → sameBytes xs ys ≡ true → xs ≡ ys
+unfolding sameBytes
+equal-of-same [] [] e = refl
+equal-of-same [] (y ∷ ys) e = absurd (false≢true e)
+equal-of-same (x ∷ xs) [] e = absurd (false≢true e)
+equal-of-same (x ∷ xs) (y ∷ ys) e =
+    let h = and-eq-true-iff (eqb x y) (sameBytes xs ys) .0 e in
+    ap₂ (λ (a : ℕ) (l : List ℕ). a ∷ l) (eqb-true x y (h .0)) (equal-of-same xs ys (h .1))

@@ -13,7 +13,7 @@ use Rattle.settings.specs.Sizes.{matrixWords}
 use Rattle.settings.specs.declared.Parameters.{Parameters}
 use Rattle.input.specs.Input.{Input, lengths}
 use Rattle.key.specs.Key.{sameBytes}
-use Rattle.key.proofs.Same.{same-of-equal, equal-of-same}
+use Rattle.lists.proofs.EveryLaws.{same-of-equal, equal-of-same}
 use Rattle.refusals.specs.Checks.{costChecks, plainChecks, recordedChecks}
 use Rattle.refusals.proofs.Accepted.{accepted}
 use Rattle.derivation.specs.Answers.{flag}

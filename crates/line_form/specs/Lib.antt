@@ -1,0 +1,2 @@
+-- The login line.
+pub mod Line
