@@ -1,0 +1,2 @@
+-- Base 64: bytes as text, and text as bytes.
+pub mod Base64

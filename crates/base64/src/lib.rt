@@ -1,0 +1,1 @@
+// Base 64 of bytes, and bytes of base 64.

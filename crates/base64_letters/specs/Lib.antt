@@ -1,0 +1,2 @@
+-- The alphabet of base 64.
+pub mod Letters
