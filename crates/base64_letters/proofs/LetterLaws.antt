@@ -6,7 +6,7 @@ use Prim.Native.Nat.{ℕ, _+_, _*_, _-_, _/_, _≤_, _<_}
 use native.Mathlib.Decide.{decLe}
 use native.Mathlib.Omega.{arith}
 use lib.Dec.{ltb, leb, eqb}
-use borrow.Author.Tests.{ltb-true, eqb-true, eqb-false, not-true, lt-ltb, le-leb, lt-leb, ne-eqb}
+use borrow.Author.Tests.{ltb-true, leb-true, eqb-true, eqb-false, not-true, lt-ltb, le-leb, lt-leb, ne-eqb}
 use Rattle.base64_letters.specs.Letters.{letter, valueOf}
 use Rattle.base64_letters.proofs.Table.{every, at}
 
@@ -40,9 +40,9 @@ high-value b h =
       ne-eqb b 47 (omega arith),
     )
 
--- below 64 the value tells the byte, and no value is above 64
+-- below 64 the value tells the byte
 told : ℕ → Bool
-told b = cond (ltb (valueOf b) 64) (eqb (letter (valueOf b)) b) (eqb (valueOf b) 64)
+told b = cond (ltb (valueOf b) 64) (eqb (letter (valueOf b)) b) true
 
 pub letter-value : (b : ℕ) → valueOf b < 64 → letter (valueOf b) ≡ b
 unfolding letter valueOf told
@@ -50,4 +50,12 @@ letter-value b h =
     elim (decLe 128 b) [
       | yes high ↦ absurd (omega (arith, high-value b high))
       | no low ↦ eqb-true _ _ (simp (lt-ltb _ _ h) at (at told 128 refl b (omega arith)))
+    ]
+
+pub value-most : (b : ℕ) → valueOf b ≤ 64
+unfolding valueOf
+value-most b =
+    elim (decLe 128 b) [
+      | yes high ↦ omega (arith, high-value b high)
+      | no low ↦ leb-true _ _ (at (λ b. leb (valueOf b) 64) 128 refl b (omega arith))
     ]

@@ -28,6 +28,12 @@ module _ {A : Type 0} where
   drop-take (suc a) n [] = rw (suc-add a n) (sym (take-nil n))
   drop-take (suc a) n (x ∷ l) = rw (suc-add a n) (drop-take a n l)
 
+  -- inside a list it does not matter what is read past its end
+  pub getD-inside : (l : List A) (i : ℕ) (d e : A) → i < length l → getD l i d ≡ getD l i e
+  getD-inside [] i d e h = absurd (not-suc-le-zero h)
+  getD-inside (x ∷ l) zero d e h = refl
+  getD-inside (x ∷ l) (suc i) d e h = getD-inside l i d e (le-of-suc-le-suc h)
+
   -- ---- n pieces of w elements
 
   pub same-pieces : (w n : ℕ) (l m : List A) → take (w * n) l ≡ take (w * n) m

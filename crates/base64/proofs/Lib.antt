@@ -1,0 +1,4 @@
+-- The laws of base 64.
+pub mod Groups
+pub mod Inverse
+pub mod Cases
