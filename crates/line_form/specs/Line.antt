@@ -1,9 +1,9 @@
 -- The login line: `$lyra2$t=T,r=R,c=C$SALT$KEY`. Bytes are in ASCII: 36 is the dollar, 44 the comma.
-use Prim.Native.Nat.{ℕ, _+_}
+use Prim.Native.Nat.{ℕ, _+_, _<_}
 use mathlib.Core.Bool.{Bool, cond, _&&_}
 use mathlib.Core.List.{List, [], _∷_, _++_}
 use lib.Dec.{eqb}
-use lib.ListN.{length, take, drop}
+use lib.ListN.{length, getD, take, drop}
 use Rattle.lists.specs.Every.{sameBytes}
 use Rattle.settings.specs.declared.Parameters.{Parameters}
 use Rattle.decimal.specs.Decimal.{decimal, isNumber, numberOf}
@@ -16,6 +16,11 @@ pub record Values : Type 0 where
   pub parameters : Parameters
   pub salt : List ℕ
   pub key : List ℕ
+
+-- salt and key are bytes
+pub record Bytes (v : Values) : Type 0 where
+  pub salt-bytes : (i : ℕ) → getD (v .salt) i 0 < 256
+  pub key-bytes : (i : ℕ) → getD (v .key) i 0 < 256
 
 -- `$lyra2$t=`, `,r=`, `,c=` and `$`
 abbrev pub startMark : List ℕ

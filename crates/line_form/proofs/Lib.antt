@@ -1,0 +1,3 @@
+-- The laws of the login line.
+pub mod Cuts
+pub mod Inverse
