@@ -1,2 +1,3 @@
 -- The login line.
 pub mod Line
+pub mod Contracts

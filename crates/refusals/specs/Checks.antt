@@ -2,7 +2,7 @@
 use Prim.Native.Nat.{ℕ, _-_, _≤_}
 use mathlib.Core.Bool.{Bool, false, cond, _||_}
 use mathlib.Core.List.{List, [], _∷_, _++_}
-use lib.Dec.{ltb}
+use lib.Dec.{ltb, eqb}
 use Rattle.settings.specs.Settings.{settings}
 use Rattle.settings.specs.Sizes.{matrixWords, recordWords}
 use Rattle.settings.specs.declared.Parameters.{Parameters}
@@ -29,6 +29,14 @@ range number least most value = record { number = number; bounds = between least
 abbrev pub atLeast : ℕ → ℕ → ℕ → Check
 atLeast number least value = record { number = number; bounds = least ≤? value ∷ [] }
 
+-- 1 for yes and 0 for no
+abbrev pub flag : Bool → ℕ
+flag b = cond b 1 0
+
+-- something is so
+abbrev pub holds : ℕ → Bool → Check
+holds number b = atLeast number 1 (flag b)
+
 -- ---- which check turns a call down
 
 -- one of the bounds is not kept
@@ -43,6 +51,10 @@ refuses c = broken (c .bounds)
 unfoldable pub first : List Check → ℕ
 first [] = 0
 first (c ∷ cs) = cond (refuses c) (c .number) (first cs)
+
+-- what is given where no check refused, and what otherwise
+unfoldable pub answered : {A : Type 0} → ℕ → A → A → A
+answered number result otherwise = cond (eqb number 0) result otherwise
 
 -- ---- what is so where no check refuses
 
@@ -86,6 +98,14 @@ recordCheck p = atLeast 8 (recordWords (settings p))
 abbrev pub setupRowCheck : ℕ → ℕ → Check
 setupRowCheck R = range 9 3 (R - 1)
 
+-- a text is of its form
+abbrev pub formCheck : Bool → Check
+formCheck = holds 11
+
+-- the lent outputs are long enough
+abbrev pub outputCheck : List Bound → Check
+outputCheck bounds = record { number = 12; bounds = bounds }
+
 -- ---- the operations, each with its checks in their order
 
 -- the cost question
@@ -101,6 +121,11 @@ plainChecks l p matrix = costChecks l p ++ (matrixCheck p matrix ∷ [])
 -- the recorded derivation: the words of the lent record too
 unfoldable pub recordedChecks : Lengths → Parameters → ℕ → ℕ → List Check
 recordedChecks l p matrix visited = plainChecks l p matrix ++ (recordCheck p visited ∷ [])
+
+-- what is kept of an operator: the lengths of key and salt, T, R and C
+unfoldable pub storedChecks : ℕ → ℕ → Parameters → List Check
+storedChecks key salt p =
+    keyCheck key ∷ shortSaltCheck salt ∷ longSaltCheck salt ∷ timeCheck (p .time) ∷ rowsCheck (p .rows) ∷ columnsCheck (p .columns) ∷ []
 
 -- the walk question; R alone is what the walk program asks
 unfoldable pub walkChecks : ℕ → ℕ → List Check

@@ -4,7 +4,7 @@ use settings::Parameters;
 ghost use mathlib.Core.Path.{_≡_};
 ghost use mathlib.Core.Bool.{cond};
 ghost use mathlib.Core.List.{[], _∷_};
-ghost use Rattle.refusals.specs.Checks.{_≤?_, first, broken, between, costChecks, walkChecks, rowsCheck};
+ghost use Rattle.refusals.specs.Checks.{_≤?_, first, broken, between, costChecks, storedChecks, walkChecks, rowsCheck};
 
 pub const KEY_LENGTH: u32 = 1;
 
@@ -25,6 +25,10 @@ pub const RECORD_LENGTH: u32 = 8;
 pub const SETUP_ROW: u32 = 9;
 
 pub const SALT_TOO_LONG: u32 = 10;
+
+pub const LINE_FORM: u32 = 11;
+
+pub const OUTPUT_LENGTH: u32 = 12;
 
 pub const MAX_KEY: usize = 1024;
 
@@ -72,6 +76,18 @@ pub fn cost_refusal(l: Lengths, p: Parameters) -> u32
     let later = first_of(below(MIN_SALT, l.salt), SALT_TOO_SHORT, later);
     let later = first_of(outside(0, MAX_PASSWORD, l.password), PASSWORD_LENGTH, later);
     first_of(outside(1, MAX_KEY, l.key), KEY_LENGTH, later)
+}
+
+// The checks of what is kept of an operator. They are those of the cost question but for the password's length, and none is too short.
+pub fn stored_refusal(key: usize, salt: usize, p: Parameters) -> u32
+    ensures { λ r. ⌜ r ≡ first (storedChecks key salt p) ⌝ }
+{
+    let l = Lengths {
+        key,
+        password: 0,
+        salt,
+    };
+    cost_refusal(l, p)
 }
 
 // Check 5 alone, of R: what the walk program asks.
