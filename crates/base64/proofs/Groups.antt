@@ -75,3 +75,11 @@ module _ (a b c : ℕ) (ha : a < 256) (hb : b < 256) (hc : c < 256) where
 
   pub three-small : (a * 256 + b) * 256 + c < 2 ^ 24
   three-small = omega arith
+
+-- ---- the code's shifts
+
+pub sextet-shift : (x k : ℕ) → k < 4 → x / 2 ^ (18 - 6 * k) % 64 ≡ x / 64 ^ (3 - k) % 64
+sextet-shift x = below-4 (λ k. x / 2 ^ (18 - 6 * k) % 64 ≡ x / 64 ^ (3 - k) % 64) refl refl refl refl
+
+pub octet-shift : (x k : ℕ) → k < 3 → x / 2 ^ (16 - 8 * k) % 256 ≡ x / 256 ^ (2 - k) % 256
+octet-shift x = below-3 (λ k. x / 2 ^ (16 - 8 * k) % 256 ≡ x / 256 ^ (2 - k) % 256) refl refl refl

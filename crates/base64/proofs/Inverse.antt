@@ -60,20 +60,27 @@ octet-at t g k {j} h e =
 
 -- ---- the text of bytes
 
+pub past-byte : (l : List ℕ) (j : ℕ) → length l ≤ j → getD l j 0 ≡ 0
+past-byte l j h = List·getD-eq-default l 0 h
+
 -- past the end of the bytes the bits are zero
 past-bytes : (l : List ℕ) (i : ℕ) → encodedLength (length l) ≤ i → sextet l i ≡ 0
 unfolding encodedLength three
 past-bytes l =
-    let out : (j : ℕ) → length l ≤ j → getD l j 0 ≡ 0 = λ j h. List·getD-eq-default l 0 {n = j} h in
+    let out = past-byte l in
     by-fours (λ i. encodedLength (length l) ≤ i → sextet l i ≡ 0)
     (λ g h. sextet-at l g 0 (omega arith) (omega arith) ∙ omega (arith, out (3 * g) (omega arith), out (3 * g + 1) (omega arith), out (3 * g + 2) (omega arith)))
     (λ g h. sextet-at l g 1 (omega arith) (omega arith) ∙ omega (arith, out (3 * g) (omega arith), out (3 * g + 1) (omega arith), out (3 * g + 2) (omega arith)))
     (λ g h. sextet-at l g 2 (omega arith) (omega arith) ∙ omega (arith, out (3 * g + 1) (omega arith), out (3 * g + 2) (omega arith)))
     (λ g h. sextet-at l g 3 (omega arith) (omega arith) ∙ omega (arith, out (3 * g + 2) (omega arith)))
 
-sextet-small : (l : List ℕ) (i : ℕ) → sextet l i < 64
+pub sextet-small : (l : List ℕ) (i : ℕ) → sextet l i < 64
 unfolding sextet
 sextet-small l i = omega arith
+
+pub getD-encode : (l : List ℕ) (i : ℕ) → i < encodedLength (length l) → getD (encode l) i 0 ≡ letter (sextet l i)
+unfolding encode
+getD-encode l i h = getD-tabulate _ (λ i. letter (sextet l i)) i h
 
 pub value-encode : (l : List ℕ) (i : ℕ) → valueAt (encode l) i ≡ sextet l i
 unfolding encode valueAt valueOf
@@ -113,7 +120,7 @@ octet-encode l small =
     octet-at (encode l) g 2 (omega arith) (omega arith) ∙ ap (λ (x : ℕ). x / 256 ^ 0 % 256) (four-encode l small g)
     ∙ octet-2 _ _ _ (small (3 * g)) (small (3 * g + 1)) (small (3 * g + 2)))
 
-getD-decode : (t : List ℕ) (j : ℕ) → j < decodedLength (length t) → getD (decode t) j 0 ≡ octet t j
+pub getD-decode : (t : List ℕ) (j : ℕ) → j < decodedLength (length t) → getD (decode t) j 0 ≡ octet t j
 unfolding decode
 getD-decode t j h = getD-tabulate _ (octet t) j h
 
@@ -145,7 +152,7 @@ text-parts t h =
     let first = and-eq-true-iff (allLetters t) (not (eqb (length t % 4) 1)) .0 (parts .0) in
     record { letters = value-small t (first .0); whole = eqb-false _ _ (not-true _ (first .1)); clear = eqb-true _ _ (parts .1) }
 
-past-value : (t : List ℕ) (i : ℕ) → length t ≤ i → valueAt t i ≡ 0
+pub past-value : (t : List ℕ) (i : ℕ) → length t ≤ i → valueAt t i ≡ 0
 unfolding valueAt valueOf
 past-value t i h = ap valueOf (List·getD-eq-default t 65 h)
 
@@ -169,7 +176,7 @@ module _ (t : List ℕ) (text : Text t) where
   past-text : (j : ℕ) → decodedLength (length t) ≤ j → octet t j ≡ 0
   unfolding decodedLength four
   past-text =
-      let out : (i : ℕ) → length t ≤ i → valueAt t i ≡ 0 = past-value t in
+      let out = past-value t in
       by-threes (λ j. decodedLength (length t) ≤ j → octet t j ≡ 0)
       (λ g h.
       let short : length t ≤ 4 * g = short-group (length t) (text .whole) g h in
@@ -247,7 +254,7 @@ all-letters (b ∷ t) h = ap₂ _&&_ (lt-ltb _ _ (h zero)) (all-letters t (λ i.
 spare-encode : (l : List ℕ) (n : ℕ) → length l ≡ n → sextet l (encodedLength n - 1) % unused (encodedLength n) ≡ 0
 unfolding encodedLength unused three
 spare-encode l =
-    let out : (j : ℕ) → length l ≤ j → getD l j 0 ≡ 0 = λ j h. List·getD-eq-default l 0 {n = j} h in
+    let out = past-byte l in
     by-threes (λ n. length l ≡ n → sextet l (encodedLength n - 1) % unused (encodedLength n) ≡ 0)
     (λ g e.
     let kind : (4 * (3 * g) + 2) / 3 % 4 ≡ 0 = omega arith in
