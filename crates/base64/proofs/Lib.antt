@@ -1,5 +1,7 @@
 -- The laws of base 64.
 pub mod Groups
-pub mod Reading
+pub mod Elements
+pub mod Texts
 pub mod Inverse
+pub mod Reading
 pub mod Cases

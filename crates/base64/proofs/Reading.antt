@@ -9,18 +9,8 @@ use lib.Dec.{eqb, ltb}
 use lib.ListN.{length, getD, drop, drop-of-length-le}
 use lib.Seq.{drop-cons}
 use borrow.Author.Tests.{lt-ltb, le-ltb, eq-eqb, ne-eqb}
-use Rattle.lists.proofs.Parts.{getD-inside}
 use Rattle.base64_letters.specs.Letters.{valueOf}
-use Rattle.base64_letters.proofs.LetterLaws.{value-most}
 use Rattle.base64.specs.Base64.{valueAt, unused, allLetters, isText}
-
-pub value-inside : (t : List ℕ) (i : ℕ) → i < length t → valueAt t i ≡ valueOf (getD t i 0)
-unfolding valueAt
-value-inside t i h = ap valueOf (getD-inside t i 65 0 h)
-
-pub value-at-most : (t : List ℕ) (i : ℕ) → valueAt t i ≤ 64
-unfolding valueAt
-value-at-most t i = value-most _
 
 -- ---- the last letter
 

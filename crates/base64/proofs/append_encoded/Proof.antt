@@ -6,7 +6,7 @@ use lib.ListN.{length}
 use Rattle.lists.proofs.Placed.{Placed, placed-none, placed-again, placed-end}
 use Rattle.base64_letters.specs.Letters.{letter}
 use Rattle.base64.specs.Base64.{encode}
-use Rattle.base64.proofs.Inverse.{length-encode, getD-encode, sextet-small}
+use Rattle.base64.proofs.Elements.{length-encode, getD-encode, sextet-small}
 use Rattle.base64.proofs.append_encoded.Statement.{statement}
 use Rattle.base64.proofs.append_encoded.Tie as tie
 

@@ -1,7 +1,7 @@
 -- `byte_at` meets its contract: what stands past the end is 0. Assumes nothing.
 use mathlib.Core.Path.{refl, sym}
 use native.Mathlib.Omega.{arith}
-use Rattle.base64.proofs.Inverse.{past-byte}
+use Rattle.base64.proofs.Elements.{past-byte}
 use Rattle.base64.proofs.byte_at.Statement.{statement}
 use Rattle.base64.proofs.byte_at.Tie as tie
 

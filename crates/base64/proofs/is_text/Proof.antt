@@ -14,6 +14,6 @@ is-text-spec =
     (λ c. no-letter (c .before .before .before .before .loop .inv) (omega arith) (c .before .value .ensures) (omega arith))
     (omega arith) (omega arith)
     (λ c. lettered-again (c .before .before .before .before .loop .inv) (omega arith) (c .before .value .ensures) (omega arith))
-    (λ c. letter-over (c .before .before .loop .inv) (omega arith) (c .if2 .taken))
+    (λ c. letter-over (c .before .before .loop .inv) (omega arith) (omega arith))
     (omega arith)
-    (λ c. c .unused-bits-zero .ensures ∙ all-read (c .before .before .before .loop .inv) (omega arith) (c .before .if2 .left)))
+    (λ c. c .unused-bits-zero .ensures ∙ all-read (c .before .before .before .loop .inv) (omega arith) (omega arith)))

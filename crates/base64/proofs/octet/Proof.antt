@@ -1,7 +1,7 @@
 -- `octet` meets its contract: the letters make the group's number, and a shift is a division. Assumes nothing.
 use native.Mathlib.Omega.{arith}
 use Rattle.base64.specs.Base64.{four, octet, decodedLength}
-use Rattle.base64.proofs.Groups.{octet-shift}
+use Rattle.base64.proofs.Groups.{shift-3}
 use Rattle.base64.proofs.octet.Statement.{statement}
 use Rattle.base64.proofs.octet.Tie as tie
 
@@ -13,4 +13,4 @@ octet-spec =
     (omega arith) (omega arith) (omega arith) (omega arith) (omega arith) (omega arith) (omega arith) (omega arith) (omega arith)
     (λ c.
     rw (c .before .before .before .value-at .ensures .0, c .before .before .value-at2 .ensures .0, c .before .value-at3 .ensures .0, c .value-at4 .ensures .0)
-    (octet-shift _ _ (omega arith))))
+    (shift-3 _ _ (omega arith))))

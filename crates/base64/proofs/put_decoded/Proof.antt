@@ -5,7 +5,7 @@ use native.Mathlib.Omega.{arith}
 use Rattle.lists.specs.Zip.{zipAt}
 use Rattle.lists.proofs.Placed.{Placed, placed-none, placed-again, placed-end}
 use Rattle.base64.specs.Base64.{decode}
-use Rattle.base64.proofs.Inverse.{length-decode, getD-decode}
+use Rattle.base64.proofs.Elements.{length-decode, getD-decode}
 use Rattle.base64.proofs.put_decoded.Statement.{statement}
 use Rattle.base64.proofs.put_decoded.Tie as tie
 

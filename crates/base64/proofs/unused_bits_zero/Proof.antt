@@ -11,4 +11,4 @@ unused-bits-zero-spec =
     (λ c. cc (c .value-at .ensures .0, unused-four _ (c .before .if1 .taken)))
     (omega arith) (omega arith)
     (λ c. cc (c .value-at2 .ensures .0, unused-two _ (c .before .if2 .taken)))
-    (λ c. unused-none _ _ (c .before .if1 .left) (c .if2 .left)))
+    (λ c. unused-none _ _ (omega arith) (omega arith)))

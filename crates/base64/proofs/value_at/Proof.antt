@@ -2,8 +2,7 @@
 use mathlib.Core.Path.{sym, _∙_}
 use native.Mathlib.Omega.{arith}
 use Rattle.base64_letters.proofs.LetterLaws.{value-most}
-use Rattle.base64.proofs.Inverse.{past-value}
-use Rattle.base64.proofs.Reading.{value-inside}
+use Rattle.base64.proofs.Elements.{value-inside, past-value}
 use Rattle.base64.proofs.value_at.Statement.{statement}
 use Rattle.base64.proofs.value_at.Tie as tie
 
