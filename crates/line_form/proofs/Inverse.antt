@@ -14,7 +14,9 @@ use Rattle.lists.proofs.EveryLaws.{every-at, every-all, same-of-equal}
 use Rattle.decimal.specs.Decimal.{decimal, isDigit, allDigits, isNumber, numberOf}
 use Rattle.decimal.proofs.Inverse.{digit-bounds, decimal-all-digits, decimal-number, number-decimal, decimal-of}
 use Rattle.base64.specs.Base64.{encode, decode, isText}
-use Rattle.base64.proofs.Inverse.{decode-encode, encode-decode, encode-text, text-no-dollar, decode-bytes}
+use Rattle.base64.proofs.Elements.{decode-bytes}
+use Rattle.base64.proofs.Texts.{encode-text, text-no-dollar}
+use Rattle.base64.proofs.Inverse.{decode-encode, encode-decode}
 use Rattle.line_form.specs.Line.{Values, Bytes, startMark, rowsMark, columnsMark, textMark, joined, lineOf, timeEnd, rowsEnd, columnsEnd, saltEnd, timeText, rowsText, columnsText, saltText, keyText, standsAt, isMarked, isLine, valuesOf}
 use Rattle.line_form.proofs.Cuts.{lacks, stands, cut, Cut, cut-of}
 

@@ -1,0 +1,2 @@
+-- Where the texts of a login line end.
+pub mod Ends
