@@ -19,7 +19,7 @@ lacks c = every (λ b. not (eqb b c))
 
 -- ---- from a line to its texts
 
-until-splits : (c : ℕ) (l : List ℕ) → l ≡ until c l ++ drop (length (until c l)) l
+pub until-splits : (c : ℕ) (l : List ℕ) → l ≡ until c l ++ drop (length (until c l)) l
 unfolding until
 until-splits c [] = refl
 until-splits c (b ∷ l) =

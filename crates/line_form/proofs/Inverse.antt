@@ -22,48 +22,50 @@ use Rattle.line_form.proofs.Cuts.{lacks, stands, cut, Cut, cut-of}
 
 -- ---- the parts of the form
 
-pub record Line (l : List ℕ) : Type 0 where
+pub record Marks (l : List ℕ) : Type 0 where
   pub start : standsAt l 0 startMark ≡ true
   pub rows-mark : standsAt l (timeEnd l) rowsMark ≡ true
   pub columns-mark : standsAt l (rowsEnd l) columnsMark ≡ true
   pub salt-mark : standsAt l (columnsEnd l) textMark ≡ true
   pub key-mark : standsAt l (saltEnd l) textMark ≡ true
+
+pub record Line (l : List ℕ) : Type 0 where
+  pub marks : Marks l
   pub time-form : isNumber (timeText l) ≡ true
   pub rows-form : isNumber (rowsText l) ≡ true
   pub columns-form : isNumber (columnsText l) ≡ true
   pub salt-form : isText (saltText l) ≡ true
   pub key-form : isText (keyText l) ≡ true
 
-all-true : {a b c d e f g h i j : Bool} → a ≡ true → b ≡ true → c ≡ true → d ≡ true → e ≡ true → f ≡ true → g ≡ true → h ≡ true → i ≡ true → j ≡ true
-    → (a && b && c && d && e && f && g && h && i && j) ≡ true
-all-true a b c d e f g h i j = λ k. a k && b k && c k && d k && e k && f k && g k && h k && i k && j k
-
-pub line-form : {l : List ℕ} → Line l → isLine l ≡ true
+line-form : {l : List ℕ} → Line l → isLine l ≡ true
 unfolding isLine isMarked
 line-form q =
-    all-true (q .start) (q .rows-mark) (q .columns-mark) (q .salt-mark) (q .key-mark) (q .time-form) (q .rows-form) (q .columns-form) (q .salt-form) (q .key-form)
+    let m = q .marks in
+    λ i. m .start i && m .rows-mark i && m .columns-mark i && m .salt-mark i && m .key-mark i
+    && q .time-form i && q .rows-form i && q .columns-form i && q .salt-form i && q .key-form i
 
 both : {a b : Bool} → (a && b) ≡ true → (a ≡ true) × (b ≡ true)
 both {a} {b} e = and-eq-true-iff a b .0 e
 
-pub form-line : {l : List ℕ} → isLine l ≡ true → Line l
-unfolding isLine isMarked
+pub marks-stand : {l : List ℕ} → isMarked l ≡ true → Marks l
+unfolding isMarked
+marks-stand e =
+    let key = both e in
+    let salt = both (key .0) in
+    let columns = both (salt .0) in
+    let rows = both (columns .0) in
+    record { start = rows .0; rows-mark = rows .1; columns-mark = columns .1; salt-mark = salt .1; key-mark = key .1 }
+
+form-line : {l : List ℕ} → isLine l ≡ true → Line l
+unfolding isLine
 form-line e =
     let key = both e in
     let salt = both (key .0) in
     let columns = both (salt .0) in
     let rows = both (columns .0) in
     let time = both (rows .0) in
-    let m4 = both (time .0) in
-    let m3 = both (m4 .0) in
-    let m2 = both (m3 .0) in
-    let m1 = both (m2 .0) in
     record {
-      start = m1 .0;
-      rows-mark = m1 .1;
-      columns-mark = m2 .1;
-      salt-mark = m3 .1;
-      key-mark = m4 .1;
+      marks = marks-stand (time .0);
       time-form = time .1;
       rows-form = rows .1;
       columns-form = columns .1;
@@ -76,12 +78,12 @@ form-line e =
 joined-texts : {l : List ℕ} → Line l → joined (timeText l) (rowsText l) (columnsText l) (saltText l) (keyText l) ≡ l
 unfolding joined
 joined-texts {l} q =
-    let salt = cut 36 l (columnsEnd l + 1) textMark (q .key-mark) in
-    let columns = cut 36 l (rowsEnd l + 3) textMark (q .salt-mark) in
-    let rows = cut 44 l (timeEnd l + 3) columnsMark (q .columns-mark) in
-    let time = cut 44 l 9 rowsMark (q .rows-mark) in
+    let salt = cut 36 l (columnsEnd l + 1) textMark (q .marks .key-mark) in
+    let columns = cut 36 l (rowsEnd l + 3) textMark (q .marks .salt-mark) in
+    let rows = cut 44 l (timeEnd l + 3) columnsMark (q .marks .columns-mark) in
+    let time = cut 44 l 9 rowsMark (q .marks .rows-mark) in
     sym
-    (stands l 0 startMark (q .start)
+    (stands l 0 startMark (q .marks .start)
     ∙ ap (λ (r : List ℕ). startMark ++ r)
     (time ∙ ap (λ (r : List ℕ). timeText l ++ (rowsMark ++ r))
     (rows ∙ ap (λ (r : List ℕ). rowsText l ++ (columnsMark ++ r))
@@ -156,11 +158,14 @@ module _ (v : Values) where
       let j = line-joined in
       line-form
       (record {
-        start = same-of-equal startMark;
-        rows-mark = j .rows-stands;
-        columns-mark = j .columns-stands;
-        salt-mark = j .salt-stands;
-        key-mark = j .key-stands;
+        marks =
+            record {
+              start = same-of-equal startMark;
+              rows-mark = j .rows-stands;
+              columns-mark = j .columns-stands;
+              salt-mark = j .salt-stands;
+              key-mark = j .key-stands;
+            };
         time-form = ap isNumber (j .time-is) ∙ decimal-number (v .parameters .time);
         rows-form = ap isNumber (j .rows-is) ∙ decimal-number (v .parameters .rows);
         columns-form = ap isNumber (j .columns-is) ∙ decimal-number (v .parameters .columns);

@@ -1,0 +1,2 @@
+-- The laws of the texts of a login line.
+pub mod TextLaws

@@ -1,0 +1,118 @@
+-- The texts of a line as parts of it, and what their forms and lengths are by the ends that were found. Assumes nothing.
+use mathlib.Core.Path.{_≡_, refl, sym, ap, ap₂, _∙_}
+use mathlib.Core.Bool.{Bool, true, false, cond, _&&_, and-eq-true-iff}
+use Prim.Native.Nat.{ℕ, _+_, _-_, _≤_}
+use native.Mathlib.Omega.{arith}
+use mathlib.Core.List.{List, [], _∷_, _++_}
+use lib.ListN.{length, take, drop, length-drop}
+use lib.Seq.{take-append-seam, take-all}
+use Rattle.decimal.specs.Decimal.{isNumber}
+use Rattle.base64.specs.Base64.{decode, decodedLength, isText}
+use Rattle.base64.proofs.Elements.{length-decode}
+use Rattle.line_form.specs.Line.{startMark, rowsMark, columnsMark, textMark, until, endAt, timeEnd, rowsEnd, columnsEnd, saltEnd, timeText, rowsText, columnsText, saltText, keyText, standsAt, isMarked, isLine, valuesOf}
+use Rattle.line_form.specs.Contracts.{lineValues, noValues}
+use Rattle.line_form.specs.declared.LineValues.{LineValues}
+use Rattle.line_form.proofs.Cuts.{until-splits}
+use Rattle.line_form.proofs.Inverse.{marks-stand}
+use Rattle.line_marks.specs.declared.Ends.{Ends}
+use Rattle.line_marks.specs.Ends.{noEnds, endsOf}
+use Rattle.line_marks.proofs.Marks.{end-inside, stands-fits}
+use Rattle.line_texts.specs.Texts.{partOf, Marked, areTexts, capped, formAnswer}
+
+part-until : (c : ℕ) (l : List ℕ) (a : ℕ) → partOf l a (endAt c l a) ≡ until c (drop a l)
+unfolding endAt
+part-until c l a =
+    let n = length (until c (drop a l)) in
+    let size : a + n - a ≡ n = omega arith in
+    ap₂ (λ (k : ℕ) (d : List ℕ). take k d) size (until-splits c (drop a l)) ∙ take-append-seam (until c (drop a l)) (drop n (drop a l))
+
+length-until : (c : ℕ) (l : List ℕ) (a : ℕ) → length (until c (drop a l)) ≡ endAt c l a - a
+unfolding endAt
+length-until c l a = omega arith
+
+module _ {l : List ℕ} {e : Ends} (m : Marked l e) where
+  pub time-part : partOf l 9 (e .time) ≡ timeText l
+  time-part = ap (partOf l 9) (m .time-is) ∙ part-until 44 l 9
+
+  pub rows-part : partOf l (e .time + 3) (e .rows) ≡ rowsText l
+  rows-part = (λ i. partOf l (m .time-is i + 3) (m .rows-is i)) ∙ part-until 44 l (timeEnd l + 3)
+
+  pub columns-part : partOf l (e .rows + 3) (e .columns) ≡ columnsText l
+  columns-part = (λ i. partOf l (m .rows-is i + 3) (m .columns-is i)) ∙ part-until 36 l (rowsEnd l + 3)
+
+  pub salt-part : partOf l (e .columns + 1) (e .salt) ≡ saltText l
+  salt-part = (λ i. partOf l (m .columns-is i + 1) (m .salt-is i)) ∙ part-until 36 l (columnsEnd l + 1)
+
+  pub key-part : partOf l (e .salt + 1) (length l) ≡ keyText l
+  key-part =
+      ap (λ (n : ℕ). partOf l (n + 1) (length l)) (m .salt-is)
+      ∙ take-all (length l - (saltEnd l + 1)) (drop (saltEnd l + 1) l) (omega (arith, length-drop (saltEnd l + 1) l))
+
+  pub salt-length : length (decode (saltText l)) ≡ decodedLength (e .salt - (e .columns + 1))
+  salt-length =
+      length-decode (saltText l) ∙ ap decodedLength (length-until 36 l (columnsEnd l + 1) ∙ sym (λ i. m .salt-is i - (m .columns-is i + 1)))
+
+  pub key-length : length (decode (keyText l)) ≡ decodedLength (length l - (e .salt + 1))
+  key-length =
+      length-decode (keyText l) ∙ ap decodedLength (length-drop (saltEnd l + 1) l ∙ sym (ap (λ (n : ℕ). length l - (n + 1)) (m .salt-is)))
+
+-- ---- the ends that were found
+
+-- the key's text starts within the line
+key-inside : (l : List ℕ) → isMarked l ≡ true → saltEnd l + 1 ≤ length l
+key-inside l h =
+    let m = marks-stand h in
+    let start = stands-fits l 0 startMark (omega arith) (m .start) in
+    let time = stands-fits l (timeEnd l) rowsMark (end-inside 44 l 9 start) (m .rows-mark) in
+    let rows = stands-fits l (rowsEnd l) columnsMark (end-inside 44 l (timeEnd l + 3) time) (m .columns-mark) in
+    let columns = stands-fits l (columnsEnd l) textMark (end-inside 36 l (rowsEnd l + 3) rows) (m .salt-mark) in
+    stands-fits l (saltEnd l) textMark (end-inside 36 l (columnsEnd l + 1) columns) (m .key-mark)
+
+marked-line : (l : List ℕ) → isMarked l ≡ true → Marked l (endsOf l)
+unfolding endsOf endAt
+marked-line l h =
+    let inside = key-inside l h in
+    rw h
+    (record {
+      time-is = refl;
+      rows-is = refl;
+      columns-is = refl;
+      salt-is = refl;
+      time-from = omega arith;
+      rows-from = omega arith;
+      columns-from = omega arith;
+      salt-from = omega arith;
+      key-from = inside;
+    })
+
+ends-marked : (l : List ℕ) → endsOf l .marked ≡ isMarked l
+unfolding endsOf
+ends-marked l =
+    elim (isMarked l) as (λ b. cond b (record { marked = true; time = timeEnd l; rows = rowsEnd l; columns = columnsEnd l; salt = saltEnd l }) noEnds .marked ≡ b)
+    [ true ↦ refl | false ↦ refl ]
+
+module _ (l : List ℕ) {e : Ends} (is : e ≡ endsOf l) where
+  told : {b : Bool} → e .marked ≡ b → isMarked l ≡ b
+  told h = sym (ends-marked l) ∙ sym (ap (λ (x : Ends). x .marked) is) ∙ h
+
+  pub marked : e .marked ≡ true → Marked l e
+  marked h = rw is (marked-line l (told h))
+
+  pub not-marked : e .marked ≡ false → isLine l ≡ false
+  unfolding isLine
+  not-marked h = simp (told h)
+
+  pub texts-decide : e .marked ≡ true → {b : Bool} → areTexts l ≡ b → isLine l ≡ b
+  unfolding isLine areTexts
+  texts-decide h t = simp (told h) t
+
+-- ---- what is answered of the form
+
+module _ (l : List ℕ) {r : LineValues} where
+  pub form-refused : isLine l ≡ false → r ≡ noValues 11 → r ≡ formAnswer l
+  unfolding formAnswer
+  form-refused h e = simp h e
+
+  pub form-taken : isLine l ≡ true → r ≡ capped (lineValues (valuesOf l)) → r ≡ formAnswer l
+  unfolding formAnswer
+  form-taken h e = simp h e

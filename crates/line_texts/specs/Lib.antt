@@ -1,0 +1,2 @@
+-- The texts of a login line.
+pub mod Texts
