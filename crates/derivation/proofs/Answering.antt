@@ -1,11 +1,8 @@
--- The two ways an answer goes, and the bounds of the counts. Assumes nothing.
+-- The two ways the costs are answered, and the bounds of the counts. Assumes nothing.
 use mathlib.Core.Path.{_≡_, refl, sym, ap, _∙_}
 use Prim.Native.Nat.{ℕ, _+_, _*_, _≤_}
 use native.Mathlib.Omega.{arith}
 use native.Mathlib.Nat.{le-trans, mul-le-mul, mul-add, mul-one, mul-right-comm, add-comm}
-use native.Mathlib.Decide.{ℕ-discrete}
-use mathlib.Core.Bool.{Bool, cond}
-use borrow.Author.Tests.{eq-eqb, ne-eqb}
 use Rattle.settings.specs.Settings.{settings}
 use Rattle.settings.specs.declared.Parameters.{Parameters}
 use Rattle.settings.specs.declared.Lengths.{Lengths}
@@ -15,23 +12,11 @@ use Rattle.key.specs.Key.{pieces, callsBetween}
 use Rattle.key.proofs.KeyLaws.{pieces-calls}
 use Rattle.refusals.specs.Checks.{Accepted, costChecks}
 use Rattle.refusals.proofs.Accepted.{cells-most}
-use Rattle.derivation.specs.Answers.{answered, spentOn, noCosts, costs, costAnswer}
+use Rattle.refusals.proofs.Answered.{answered-number}
+pub use Rattle.refusals.proofs.Answered.{answered-yes, answered-no, answered-is}
+use Rattle.derivation.specs.Answers.{spentOn, noCosts, costs, costAnswer}
 use Rattle.derivation.specs.declared.Costs.{Costs}
 use Rattle.derivation.specs.Cost.{fullCost, reducedCost}
-
-pub answered-yes : {A : Type 0} {n : ℕ} (a b : A) {c : A} → n ≡ 0 → c ≡ a → c ≡ answered n a b
-unfolding answered
-answered-yes {n = n} a b h e = e ∙ sym (ap (λ (t : Bool). cond t a b) (eq-eqb n 0 h))
-
--- the code's number is that of the refusal
-pub answered-no : {A : Type 0} {n number : ℕ} (a b : A) {c : A} → number ≡ n → (number ≡ 0 → ⊥) → c ≡ b → c ≡ answered n a b
-unfolding answered
-answered-no {n = n} a b is h e = e ∙ sym (ap (λ (t : Bool). cond t a b) (ne-eqb n 0 (λ z. h (is ∙ z))))
-
-pub answered-is : {A : Type 0} {n : ℕ} (a b : A) {c : A} → n ≡ 0 → c ≡ answered n a b → c ≡ a
-answered-is a b h e = e ∙ sym (answered-yes a b h refl)
-
--- ---- the costs
 
 module _ (l : Lengths) (p : Parameters) where
   pub cost-no : {n number : ℕ} {r : Costs} → number ≡ n → (number ≡ 0 → ⊥) → r ≡ noCosts number → r ≡ costAnswer n l p
@@ -45,11 +30,7 @@ module _ (l : Lengths) (p : Parameters) where
   -- an answer's number is that of the refusal
   pub number-is : (n : ℕ) → costAnswer n l p .refusal ≡ n
   unfolding costAnswer costs spentOn noCosts
-  number-is n = go (ℕ-discrete n 0)
-    where
-      go : Dec (n ≡ 0) → costAnswer n l p .refusal ≡ n
-      go (yes z) = ap (λ (c : Costs). c .refusal) (sym (cost-yes {n = n} {r = costs l p} z refl)) ∙ sym z
-      go (no h) = ap (λ (c : Costs). c .refusal) (sym (cost-no {n = n} {number = n} {r = noCosts n} refl h refl))
+  number-is n = answered-number (λ (c : Costs). c .refusal) n (costs l p) (noCosts n) refl refl
 
   pub accepted-number : {n : ℕ} {r : Costs} → r ≡ costAnswer n l p → r .refusal ≡ 0 → n ≡ 0
   accepted-number {n} e z = sym (number-is n) ∙ ap (λ (c : Costs). c .refusal) (sym e) ∙ z
