@@ -14,13 +14,13 @@ use Rattle.base64.specs.Base64.{valueAt, unused, allLetters, isText}
 
 -- ---- the last letter
 
-pub unused-four : (n : ℕ) → n % 4 ≡ 2 → unused n ≡ 16
+pub unused-four : (v n : ℕ) → n % 4 ≡ 2 → eqb (v % 16) 0 ≡ eqb (v % unused n) 0
 unfolding unused
-unused-four n h = rw h
+unused-four v n h = rw h
 
-pub unused-two : (n : ℕ) → n % 4 ≡ 3 → unused n ≡ 4
+pub unused-two : (v n : ℕ) → n % 4 ≡ 3 → eqb (v % 4) 0 ≡ eqb (v % unused n) 0
 unfolding unused
-unused-two n h = rw h
+unused-two v n h = rw h
 
 pub unused-none : (v n : ℕ) → (n % 4 ≡ 2 → ⊥) → (n % 4 ≡ 3 → ⊥) → true ≡ eqb (v % unused n) 0
 unfolding unused

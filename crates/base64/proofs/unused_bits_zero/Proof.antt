@@ -8,7 +8,7 @@ pub unused-bits-zero-spec : {M : Type 1} → statement M
 unused-bits-zero-spec =
     tie.close
     (tie.spec (omega arith) (omega arith)
-    (λ c. cc (c .value-at .ensures .0, unused-four _ (c .before .if1 .taken)))
+    (λ c. rw (c .value-at .ensures .0) (unused-four _ _ (c .before .if1 .taken)))
     (omega arith) (omega arith)
-    (λ c. cc (c .value-at2 .ensures .0, unused-two _ (c .before .if2 .taken)))
+    (λ c. rw (c .value-at2 .ensures .0) (unused-two _ _ (c .before .if2 .taken)))
     (λ c. unused-none _ _ (omega arith) (omega arith)))
