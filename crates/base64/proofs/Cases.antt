@@ -1,9 +1,10 @@
--- The examples of RFC 4648 section 10, without their `=`, each encoded and decoded. Assumes nothing.
+-- The examples of RFC 4648 section 10, without their `=`, each encoded and decoded, and neighbours of theirs that are no texts. Assumes nothing.
 use mathlib.Core.Path.{_≡_, refl}
+use mathlib.Core.Bool.{false}
 use mathlib.Core.List.{[], _∷_}
 use Rattle.lists.specs.Zip.{tabulate}
 use Rattle.base64_letters.specs.Letters.{letter, valueOf}
-use Rattle.base64.specs.Base64.{three, sextet, encodedLength, encode, valueAt, four, octet, decodedLength, decode}
+use Rattle.base64.specs.Base64.{three, sextet, encodedLength, encode, valueAt, four, octet, decodedLength, decode, unused, allLetters, isText}
 
 pub none : (encode [] ≡ []) × (decode [] ≡ [])
 unfolding encode encodedLength decode decodedLength tabulate
@@ -38,3 +39,8 @@ fooba = (refl, refl)
 pub foobar : (encode (102 ∷ 111 ∷ 111 ∷ 98 ∷ 97 ∷ 114 ∷ []) ≡ 90 ∷ 109 ∷ 57 ∷ 118 ∷ 89 ∷ 109 ∷ 70 ∷ 121 ∷ []) × (decode (90 ∷ 109 ∷ 57 ∷ 118 ∷ 89 ∷ 109 ∷ 70 ∷ 121 ∷ []) ≡ 102 ∷ 111 ∷ 111 ∷ 98 ∷ 97 ∷ 114 ∷ [])
 unfolding encode encodedLength sextet three letter decode decodedLength octet four valueAt valueOf tabulate
 foobar = (refl, refl)
+
+-- `Zh` and `Zm9` have an unused bit, of `Zm9vY` a letter is left over, and `Zg==` ends with `=`
+pub no-texts : (isText (90 ∷ 104 ∷ []) ≡ false) × (isText (90 ∷ 109 ∷ 57 ∷ []) ≡ false) × (isText (90 ∷ 109 ∷ 57 ∷ 118 ∷ 89 ∷ []) ≡ false) × (isText (90 ∷ 103 ∷ 61 ∷ 61 ∷ []) ≡ false)
+unfolding isText allLetters unused valueAt valueOf
+no-texts = (refl, refl, refl, refl)

@@ -2,14 +2,14 @@
 -- encoded is such a text. Assumes nothing.
 use mathlib.Core.Path.{_≡_, refl, sym, ap, ap₂, _∙_}
 use mathlib.Core.Bool.{true, false, not, _&&_, and-eq-true-iff}
-use Prim.Native.Nat.{ℕ, zero, suc, _+_, _*_, _-_, _/_, _%_, _^_, _≤_, _<_}
+use Prim.Native.Nat.{ℕ, zero, suc, _+_, _*_, _-_, _%_, _≤_, _<_}
 use native.Mathlib.Decide.{decLt}
 use native.Mathlib.Omega.{arith}
 use mathlib.Core.List.{List, [], _∷_}
 use lib.Dec.{ltb, eqb}
 use lib.ListN.{length, getD}
 use borrow.Author.Tests.{ltb-true, lt-ltb, eqb-true, eqb-false, eq-eqb, ne-eqb, not-true}
-use Rattle.base64_letters.specs.Letters.{letter, valueOf}
+use Rattle.base64_letters.specs.Letters.{valueOf}
 use Rattle.base64_letters.proofs.LetterLaws.{value-letter}
 use Rattle.base64.specs.Base64.{three, sextet, encodedLength, encode, valueAt, unused, allLetters, isText}
 use Rattle.base64.proofs.Groups.{by-threes, by-fours}

@@ -22,6 +22,7 @@ sextet l i = three l (i / 4) / 64 ^ (3 - i % 4) % 64
 unfoldable pub encodedLength : ℕ → ℕ
 encodedLength n = (4 * n + 2) / 3
 
+-- the text of bytes
 unfoldable pub encode : List ℕ → List ℕ
 encode l = tabulate (encodedLength (length l)) (λ i. letter (sextet l i))
 
@@ -35,7 +36,7 @@ valueAt t i = valueOf (getD t i 65)
 unfoldable pub four : List ℕ → ℕ → ℕ
 four t g = ((valueAt t (4 * g) * 64 + valueAt t (4 * g + 1)) * 64 + valueAt t (4 * g + 2)) * 64 + valueAt t (4 * g + 3)
 
--- byte j
+-- the eight bits of byte j
 unfoldable pub octet : List ℕ → ℕ → ℕ
 octet t j = four t (j / 3) / 256 ^ (2 - j % 3) % 256
 
@@ -43,19 +44,21 @@ octet t j = four t (j / 3) / 256 ^ (2 - j % 3) % 256
 unfoldable pub decodedLength : ℕ → ℕ
 decodedLength n = 3 * n / 4
 
+-- the bytes of a text
 unfoldable pub decode : List ℕ → List ℕ
 decode t = tabulate (decodedLength (length t)) (octet t)
 
 -- ---- which texts are base 64
 
--- the last of n letters holds no bit that is unused: its value is divisible by this
+-- by what the value of the last of n letters has to be divisible, so that the bits that no byte takes are zero
 unfoldable pub unused : ℕ → ℕ
 unused n = cond (eqb (n % 4) 2) 16 (cond (eqb (n % 4) 3) 4 1)
 
+-- every byte is a letter
 unfoldable pub allLetters : List ℕ → Bool
 allLetters [] = true
 allLetters (b ∷ t) = ltb (valueOf b) 64 && allLetters t
 
--- all are letters, none of them is left over, and the unused bits are zero
+-- a text of base 64: all are letters, none of them is left over, and the unused bits are zero
 unfoldable pub isText : List ℕ → Bool
 isText t = allLetters t && not (eqb (length t % 4) 1) && eqb (valueAt t (length t - 1) % unused (length t)) 0

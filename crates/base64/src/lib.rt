@@ -21,6 +21,7 @@ fn byte_at(bytes: &[u8], i: usize) -> usize
     }
 }
 
+// The six bits of letter i.
 fn sextet(bytes: &[u8], i: usize) -> usize
     ensures { λ r. ⌜ r ≡ sextet (now (bytes .entry)) i ⌝ }
 {
@@ -36,6 +37,7 @@ pub fn encoded_length(n: usize) -> usize
     (4 * n + 2) / 3
 }
 
+// Puts the text of bytes at a place, and answers where it ends.
 pub fn append_encoded(out: &mut [u8], at: usize, bytes: &[u8]) -> usize
     requires { ⌜ (length (now bytes) < 2 ^ 32) × (at + encodedLength (length (now bytes)) ≤ length (now out)) ⌝ }
     ensures { λ r. ⌜ Appended (now (out .entry)) (now (out .exit)) at (encode (now (bytes .entry))) r ⌝ }
@@ -56,6 +58,7 @@ fn value_at(text: &[u8], i: usize) -> usize
     if i < text.len() { value(text[i]) } else { 0 }
 }
 
+// The eight bits of byte j.
 fn octet(text: &[u8], j: usize) -> u8
     requires { ⌜ j < decodedLength (length (now text)) ⌝ }
     ensures { λ r. ⌜ r ≡ octet (now (text .entry)) j ⌝ }
@@ -73,6 +76,7 @@ pub fn decoded_length(n: usize) -> usize
     n / 4 * 3 + n % 4 * 3 / 4
 }
 
+// Puts the bytes of a text in front; what stands after them is kept.
 pub fn put_decoded(text: &[u8], out: &mut [u8])
     requires { ⌜ decodedLength (length (now text)) ≤ length (now out) ⌝ }
     ensures { λ _. ⌜ now (out .exit) ≡ putInto (now (out .entry)) (decode (now (text .entry))) ⌝ }

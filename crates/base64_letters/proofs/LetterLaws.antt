@@ -1,14 +1,14 @@
 -- Letters and their values are each other's inverse. Values and bytes are few, so each rule is one computed test; a byte from 128 on is
 -- outside every range. Assumes nothing.
 use mathlib.Core.Path.{_≡_, refl}
-use mathlib.Core.Bool.{Bool, true, cond, _&&_, not, and-eq-true-iff}
-use Prim.Native.Nat.{ℕ, _+_, _*_, _-_, _/_, _≤_, _<_}
+use mathlib.Core.Bool.{Bool, true, cond, not}
+use Prim.Native.Nat.{ℕ, _≤_, _<_}
 use native.Mathlib.Decide.{decLe}
 use native.Mathlib.Omega.{arith}
 use lib.Dec.{ltb, leb, eqb}
 use borrow.Author.Tests.{ltb-true, leb-true, eqb-true, eqb-false, not-true, lt-ltb, le-leb, lt-leb, ne-eqb}
 use Rattle.base64_letters.specs.Letters.{letter, valueOf}
-use Rattle.base64_letters.proofs.Table.{every, at}
+use Rattle.base64_letters.proofs.Table.{at}
 
 -- ---- values to letters and back
 

@@ -1,5 +1,5 @@
 -- The sums by which the code finds a letter and a value, without a branch, are the definitions'. Assumes nothing.
-use mathlib.Core.Path.{_≡_, refl, sym, ap, _∙_}
+use mathlib.Core.Path.{_≡_, refl}
 use mathlib.Core.Bool.{cond, _&&_}
 use Prim.Native.Nat.{ℕ, _+_, _*_, _-_, _/_, _%_, _≤_, _<_}
 use native.Mathlib.Nat.{zero-mul, one-mul, mul-le-mul-right, lt-of-le-of-lt}
@@ -8,15 +8,18 @@ use native.Mathlib.Omega.{arith}
 use lib.Dec.{ltb, leb, eqb}
 use borrow.Author.Tests.{leb-true, eqb-true, lt-ltb, le-ltb, le-leb, lt-leb}
 use Rattle.base64_letters.specs.Letters.{letter, valueOf}
-use Rattle.base64_letters.proofs.Table.{every, at}
+use Rattle.base64_letters.proofs.Table.{at}
 
+-- 1 where `from` is at most x, else 0
 abbrev step : ℕ → ℕ → ℕ
 step x from = (x + 256 - from) / 256
 
-pub letter-sum : (v : ℕ) → v < 64 → v + 65 + 6 * step v 26 - 75 * step v 52 - 15 * step v 62 + 3 * step v 63 ≡ letter v
+abbrev letterSum : ℕ → ℕ
+letterSum v = v + 65 + 6 * step v 26 - 75 * step v 52 - 15 * step v 62 + 3 * step v 63
+
+pub letter-sum : (v : ℕ) → v < 64 → letterSum v ≡ letter v
 unfolding letter
-letter-sum v h =
-    eqb-true _ _ (at (λ v. eqb (v + 65 + 6 * step v 26 - 75 * step v 52 - 15 * step v 62 + 3 * step v 63) (letter v)) 64 refl v h)
+letter-sum v h = eqb-true _ _ (at (λ v. eqb (letterSum v) (letter v)) 64 refl v h)
 
 pub flag-fits : (flag x : ℕ) → flag ≤ 1 → x < 256 → flag * x < 256
 flag-fits flag x h small = lt-of-le-of-lt (mul-le-mul-right x h) (rw one-mul small)
@@ -48,11 +51,9 @@ value-fits b h =
     leb-true _ _
     (at (λ b. leb (below b 65 91 129 + below b 97 123 135 + below b 48 58 60 + below b 43 44 45 + below b 47 48 48) 64) 256 refl b h)
 
-pub value-sum : (b : ℕ) → b < 256
-    → 64 - below b 65 91 129 - below b 97 123 135 - below b 48 58 60 - below b 43 44 45 - below b 47 48 48 ≡ valueOf b
+abbrev valueSum : ℕ → ℕ
+valueSum b = 64 - below b 65 91 129 - below b 97 123 135 - below b 48 58 60 - below b 43 44 45 - below b 47 48 48
+
+pub value-sum : (b : ℕ) → b < 256 → valueSum b ≡ valueOf b
 unfolding valueOf
-value-sum b h =
-    eqb-true _ _
-    (at
-    (λ b. eqb (64 - below b 65 91 129 - below b 97 123 135 - below b 48 58 60 - below b 43 44 45 - below b 47 48 48) (valueOf b))
-    256 refl b h)
+value-sum b h = eqb-true _ _ (at (λ b. eqb (valueSum b) (valueOf b)) 256 refl b h)

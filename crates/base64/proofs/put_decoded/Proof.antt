@@ -1,5 +1,5 @@
 -- `put_decoded` meets its contract. The loop's invariant: the first j bytes are in place. Assumes nothing.
-use mathlib.Core.Path.{refl, sym, _∙_}
+use mathlib.Core.Path.{sym, _∙_}
 use Prim.Native.Nat.{_-_}
 use native.Mathlib.Omega.{arith}
 use Rattle.lists.specs.Zip.{zipAt}

@@ -9,4 +9,6 @@ letter-spec =
     tie.close
     (tie.spec (omega arith) (omega arith) (omega arith) (omega arith) (omega arith) (omega arith) (omega arith) (omega arith) (omega arith)
     (omega arith) (omega arith) (omega arith) (omega arith) (omega arith)
-    (λ c. cc (letter-sum (c .before .before .before .before .args .v) (omega arith))))
+    (λ c.
+    rw (c .before .before .before .step .ensures, c .before .before .step2 .ensures, c .before .step3 .ensures, c .step4 .ensures)
+    (letter-sum _ (omega arith))))
