@@ -6,7 +6,7 @@ use native.Mathlib.Nat.{zero-mul, one-mul, mul-le-mul-right, lt-of-le-of-lt}
 use native.Mathlib.Decide.{decLe, decLt}
 use native.Mathlib.Omega.{arith}
 use lib.Dec.{ltb, leb, eqb}
-use borrow.Author.Tests.{leb-true, eqb-true, lt-ltb, le-ltb, le-leb, lt-leb}
+use borrow.Author.Tests.{eqb-true, lt-ltb, le-ltb, le-leb, lt-leb}
 use Rattle.base64_letters.specs.Letters.{letter, valueOf}
 use Rattle.base64_letters.proofs.Table.{at}
 
@@ -46,13 +46,8 @@ in-range b from to top small le fits most =
 abbrev below : ℕ → ℕ → ℕ → ℕ → ℕ
 below b from to top = cond (leb from b && ltb b to) (top - b) 0
 
-pub value-fits : (b : ℕ) → b < 256 → below b 65 91 129 + below b 97 123 135 + below b 48 58 60 + below b 43 44 45 + below b 47 48 48 ≤ 64
-value-fits b h =
-    leb-true _ _
-    (at (λ b. leb (below b 65 91 129 + below b 97 123 135 + below b 48 58 60 + below b 43 44 45 + below b 47 48 48) 64) 256 refl b h)
-
 abbrev valueSum : ℕ → ℕ
-valueSum b = 64 - below b 65 91 129 - below b 97 123 135 - below b 48 58 60 - below b 43 44 45 - below b 47 48 48
+valueSum b = (64 + 1280 - below b 65 91 129 - below b 97 123 135 - below b 48 58 60 - below b 43 44 45 - below b 47 48 48) % 256
 
 pub value-sum : (b : ℕ) → b < 256 → valueSum b ≡ valueOf b
 unfolding valueOf

@@ -24,7 +24,7 @@ pub fn letter(v: usize) -> u8
 // How far b is below `top` where it is `from` or more and less than `to`, else 0.
 fn below_top(b: usize, from: usize, to: usize, top: usize) -> usize
     requires { ⌜ (b < 256) × (from ≤ to) × (to ≤ top) × (top < 256) ⌝ }
-    ensures { λ r. ⌜ r ≡ cond (leb from b && ltb b to) (top - b) 0 ⌝ }
+    ensures { λ r. ⌜ (r ≡ cond (leb from b && ltb b to) (top - b) 0) × (r < 256) ⌝ }
 {
     (step(b, from) - step(b, to)) * ((top + 256 - b) % 256)
 }
@@ -35,15 +35,17 @@ fn widened(b: u8) -> usize
     b as usize
 }
 
-// A byte is in one range at most; how far it is below the range's top is what its value lacks of 64.
+// A byte is in one range at most; how far it is below the range's top is what its value lacks of 64. Five times 256 more, so that no
+// difference goes below 0.
 pub fn value(b: u8) -> usize
     ensures { λ r. ⌜ r ≡ valueOf b ⌝ }
 {
     let x = widened(b);
-    64
+    (64 + 1280
         - below_top(x, 65, 91, 129)
         - below_top(x, 97, 123, 135)
         - below_top(x, 48, 58, 60)
         - below_top(x, 43, 44, 45)
-        - below_top(x, 47, 48, 48)
+        - below_top(x, 47, 48, 48))
+        % 256
 }

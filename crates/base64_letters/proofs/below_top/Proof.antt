@@ -9,5 +9,10 @@ pub below-top-spec : {M : Type 1} → statement M
 below-top-spec =
     tie.close
     (tie.spec (omega arith) (omega arith) (omega arith) (omega arith) (omega arith)
-    (λ c. omega (arith, flag-fits (c .before .step .result - c .step2 .result) ((c .before .before .args .top + 256 - c .before .before .args .b) % 256) (omega arith) (omega arith)))
-    (λ c. rw (c .before .step .ensures, c .step2 .ensures) (in-range _ _ _ _ (omega arith) (omega arith) (omega arith) (omega arith))))
+    (λ c.
+    let a = c .before .before .args in
+    omega (arith, flag-fits (c .before .step .result - c .step2 .result) ((a .top + 256 - a .b) % 256) (omega arith) (omega arith)))
+    (λ c. (
+      rw (c .before .step .ensures, c .step2 .ensures) (in-range _ _ _ _ (omega arith) (omega arith) (omega arith) (omega arith)),
+      flag-fits _ _ (omega arith) (omega arith),
+    )))
