@@ -35,12 +35,12 @@ module _ (l : List ℕ) (bytes : (i : ℕ) → getD l i 0 < 256) where
   unfolding octet three
   octet-encode j = ap (λ (x : ℕ). x / 256 ^ (2 - j % 3) % 256) (four-encode (j / 3)) ∙ digit-3 (λ i. getD l i 0) bytes j
 
-  pub decode-encode : decode (encode l) ≡ l
-  unfolding encodedLength decodedLength
-  decode-encode =
-      let whole : decodedLength (length (encode l)) ≡ length l = omega (arith, length-encode l) in
-      ext-getD 0 (decode (encode l)) l (length-decode (encode l) ∙ whole)
-      (λ j h. getD-decode (encode l) j (omega (arith, length-decode (encode l))) ∙ octet-encode j)
+pub decode-encode : (l : List ℕ) → ((i : ℕ) → getD l i 0 < 256) → decode (encode l) ≡ l
+unfolding encodedLength decodedLength
+decode-encode l bytes =
+    let whole : decodedLength (length (encode l)) ≡ length l = omega (arith, length-encode l) in
+    ext-getD 0 (decode (encode l)) l (length-decode (encode l) ∙ whole)
+    (λ j h. getD-decode (encode l) j (omega (arith, length-decode (encode l))) ∙ octet-encode l bytes j)
 
 -- ---- text to bytes and back
 
