@@ -4,7 +4,8 @@ use mathlib.Core.Bool.{false}
 use mathlib.Core.List.{[], _∷_}
 use Rattle.lists.specs.Zip.{tabulate}
 use Rattle.base64_letters.specs.Letters.{letter, valueOf}
-use Rattle.base64.specs.Base64.{three, sextet, encodedLength, encode, valueAt, four, octet, decodedLength, decode, unused, allLetters, isText}
+use Rattle.base64.specs.Base64.{three, sextet, encodedLength, encode, valueAt, four, octet, decodedLength, decode, unused, isText}
+use Rattle.lists.specs.Every.{every}
 
 pub none : (encode [] ≡ []) × (decode [] ≡ [])
 unfolding encode encodedLength decode decodedLength tabulate
@@ -42,5 +43,5 @@ foobar = (refl, refl)
 
 -- `Zh` and `Zm9` have an unused bit, of `Zm9vY` a letter is left over, and `Zg==` ends with `=`
 pub no-texts : (isText (90 ∷ 104 ∷ []) ≡ false) × (isText (90 ∷ 109 ∷ 57 ∷ []) ≡ false) × (isText (90 ∷ 109 ∷ 57 ∷ 118 ∷ 89 ∷ []) ≡ false) × (isText (90 ∷ 103 ∷ 61 ∷ 61 ∷ []) ≡ false)
-unfolding isText allLetters unused valueAt valueOf
+unfolding isText every unused valueAt valueOf
 no-texts = (refl, refl, refl, refl)

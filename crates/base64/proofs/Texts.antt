@@ -6,12 +6,13 @@ use Prim.Native.Nat.{ℕ, zero, suc, _+_, _*_, _-_, _%_, _≤_, _<_}
 use native.Mathlib.Decide.{decLt}
 use native.Mathlib.Omega.{arith}
 use mathlib.Core.List.{List, [], _∷_}
-use lib.Dec.{ltb, eqb}
+use lib.Dec.{eqb}
 use lib.ListN.{length, getD}
 use borrow.Author.Tests.{ltb-true, lt-ltb, eqb-true, eqb-false, eq-eqb, ne-eqb, not-true}
+use Rattle.lists.specs.Every.{every}
 use Rattle.base64_letters.specs.Letters.{valueOf}
 use Rattle.base64_letters.proofs.LetterLaws.{value-letter}
-use Rattle.base64.specs.Base64.{three, sextet, encodedLength, encode, valueAt, unused, allLetters, isText}
+use Rattle.base64.specs.Base64.{three, sextet, encodedLength, encode, valueAt, unused, isLetter, allLetters, isText}
 use Rattle.base64.proofs.Groups.{by-threes, by-fours}
 use Rattle.base64.proofs.Elements.{length-encode, getD-encode, past-byte, value-inside, past-value, sextet-small, sextet-at}
 
@@ -23,10 +24,10 @@ pub record Text (t : List ℕ) : Type 0 where
   pub clear : valueAt t (length t - 1) % unused (length t) ≡ 0
 
 value-small : (t : List ℕ) → allLetters t ≡ true → (i : ℕ) → valueAt t i < 64
-unfolding allLetters valueAt valueOf
+unfolding every valueAt valueOf
 value-small [] h i = omega arith
-value-small (b ∷ t) h zero = ltb-true _ _ (and-eq-true-iff (ltb (valueOf b) 64) (allLetters t) .0 h .0)
-value-small (b ∷ t) h (suc i) = value-small t (and-eq-true-iff (ltb (valueOf b) 64) (allLetters t) .0 h .1) i
+value-small (b ∷ t) h zero = ltb-true _ _ (and-eq-true-iff (isLetter b) (allLetters t) .0 h .0)
+value-small (b ∷ t) h (suc i) = value-small t (and-eq-true-iff (isLetter b) (allLetters t) .0 h .1) i
 
 text-tests : (t : List ℕ) → isText t ≡ true
     → (allLetters t ≡ true) × (not (eqb (length t % 4) 1) ≡ true) × (eqb (valueAt t (length t - 1) % unused (length t)) 0 ≡ true)
@@ -76,7 +77,7 @@ value-encode l i =
     ]
 
 all-letters : (t : List ℕ) → ((i : ℕ) → valueAt t i < 64) → allLetters t ≡ true
-unfolding allLetters valueAt
+unfolding every valueAt
 all-letters [] h = refl
 all-letters (b ∷ t) h = ap₂ _&&_ (lt-ltb _ _ (h zero)) (all-letters t (λ i. h (suc i)))
 

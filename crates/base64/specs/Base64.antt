@@ -1,11 +1,12 @@
 -- Base 64 of RFC 4648 section 4, without `=` at the end. Three bytes are four letters. Everything is told place by place: past its end a list
 -- reads as 0, and a text as the letter A, whose value is 0.
 use Prim.Native.Nat.{ℕ, _+_, _-_, _*_, _/_, _%_, _^_}
-use mathlib.Core.Bool.{Bool, true, cond, not, _&&_}
-use mathlib.Core.List.{List, [], _∷_}
+use mathlib.Core.Bool.{Bool, cond, not, _&&_}
+use mathlib.Core.List.{List}
 use lib.Dec.{ltb, eqb}
 use lib.ListN.{length, getD}
 use Rattle.lists.specs.Zip.{tabulate}
+use Rattle.lists.specs.Every.{every}
 use Rattle.base64_letters.specs.Letters.{letter, valueOf}
 
 -- ---- bytes to text
@@ -55,9 +56,11 @@ unfoldable pub unused : ℕ → ℕ
 unused n = cond (eqb (n % 4) 2) 16 (cond (eqb (n % 4) 3) 4 1)
 
 -- every byte is a letter
-unfoldable pub allLetters : List ℕ → Bool
-allLetters [] = true
-allLetters (b ∷ t) = ltb (valueOf b) 64 && allLetters t
+abbrev pub isLetter : ℕ → Bool
+isLetter b = ltb (valueOf b) 64
+
+abbrev pub allLetters : List ℕ → Bool
+allLetters = every isLetter
 
 -- a text of base 64: all are letters, none of them is left over, and the unused bits are zero
 unfoldable pub isText : List ℕ → Bool
