@@ -1,6 +1,6 @@
 -- The texts of a line as parts of it, and what their forms and lengths are by the ends that were found. Assumes nothing.
 use mathlib.Core.Path.{_≡_, refl, sym, ap, ap₂, _∙_}
-use mathlib.Core.Bool.{Bool, true, false, cond, _&&_, and-eq-true-iff}
+use mathlib.Core.Bool.{Bool, true, false, cond, _&&_, true≢false}
 use Prim.Native.Nat.{ℕ, _+_, _-_, _≤_}
 use native.Mathlib.Omega.{arith}
 use mathlib.Core.List.{List, [], _∷_, _++_}
@@ -101,6 +101,13 @@ module _ (l : List ℕ) {e : Ends} (is : e ≡ endsOf l) where
   pub not-marked : e .marked ≡ false → isLine l ≡ false
   unfolding isLine
   not-marked h = simp (told h)
+
+  pub line-marked : isLine l ≡ true → Marked l e
+  line-marked h = go (e .marked) refl
+    where
+      go : (b : Bool) → e .marked ≡ b → Marked l e
+      go true m = marked m
+      go false m = absurd (true≢false (sym h ∙ not-marked m))
 
   pub texts-decide : e .marked ≡ true → {b : Bool} → areTexts l ≡ b → isLine l ≡ b
   unfolding isLine areTexts

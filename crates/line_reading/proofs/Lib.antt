@@ -1,0 +1,2 @@
+-- The laws of reading a login line.
+pub mod ReadLaws

@@ -1,0 +1,36 @@
+-- `answer` meets its contract, return by return: the form, the values, the outputs. Assumes nothing.
+use denote.Ref.{now}
+use Rattle.line_reading.proofs.ReadLaws.{answer-form, answer-values, answer-room, answer-taken}
+use Rattle.line_reading.proofs.answer.Statement.{statement}
+use Rattle.line_reading.proofs.answer.Tie as tie
+
+pub answer-spec : {M : Type 1} → statement M
+answer-spec =
+    tie.close
+    (tie.spec (λ c κs. tt)
+    (λ c.
+    let form = c .before .before in
+    let a = form .before .before .args in
+    answer-form (now (a .line)) (a .salt-room) (a .key-room) (form .form-answer .ensures) (c .if1 .taken))
+    (λ c κs. tt) (λ c κs. tt)
+    (λ c.
+    let values = c .before .before in
+    let form = values .before .before .before in
+    let a = form .before .before .args in
+    answer-values (now (a .line)) (a .salt-room) (a .key-room) (form .form-answer .ensures) (values .before .if1 .left)
+    (values .stored-refusal .ensures) (c .before .if2 .taken) (c .no-values .ensures))
+    (λ c κs. tt) (λ c κs. tt)
+    (λ c.
+    let room = c .before .before in
+    let values = room .before .before in
+    let form = values .before .before .before in
+    let a = form .before .before .args in
+    answer-room (now (a .line)) (a .salt-room) (a .key-room) (form .form-answer .ensures) (values .before .if1 .left)
+    (values .stored-refusal .ensures) (room .before .if2 .left) (room .output-refusal .ensures) (c .before .if3 .taken) (c .no-values2 .ensures))
+    (λ c.
+    let room = c .before in
+    let values = room .before .before in
+    let form = values .before .before .before in
+    let a = form .before .before .args in
+    answer-taken (now (a .line)) (a .salt-room) (a .key-room) (form .form-answer .ensures) (values .before .if1 .left)
+    (values .stored-refusal .ensures) (room .before .if2 .left) (room .output-refusal .ensures) (c .if3 .left)))
