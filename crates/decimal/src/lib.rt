@@ -15,7 +15,15 @@ pub fn append_decimal(out: &mut [u8], at: usize, n: usize) -> usize
     text::append(out, at, &digits[..k])
 }
 
-// The same of a number of at most five digits, where there is room for five.
+// How many digits n has.
+pub fn decimal_length(n: usize) -> usize
+    ensures { λ r. ⌜ r ≡ length (decimal n) ⌝ }
+{
+    let mut digits = [0u8; 20];
+    io::decimal(n as u64, &mut digits)
+}
+
+// Puts the digits of a number of at most five, where there is room for five.
 pub fn append_short(out: &mut [u8], at: usize, n: usize) -> usize
     requires { ⌜ (n < 100000) × (at + 5 ≤ length (now out)) ⌝ }
     ensures { λ r. ⌜ Appended (now (out .entry)) (now (out .exit)) at (decimal n) r ⌝ }

@@ -1,3 +1,4 @@
 -- The laws of the login line.
 pub mod Cuts
 pub mod Inverse
+pub mod Lengths

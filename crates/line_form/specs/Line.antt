@@ -7,7 +7,7 @@ use lib.ListN.{length, getD, take, drop}
 use Rattle.lists.specs.Every.{sameBytes}
 use Rattle.settings.specs.declared.Parameters.{Parameters}
 use Rattle.decimal.specs.Decimal.{decimal, isNumber, numberOf}
-use Rattle.base64.specs.Base64.{encode, decode, isText}
+use Rattle.base64.specs.Base64.{encodedLength, encode, decode, isText}
 
 -- ---- written
 
@@ -42,6 +42,11 @@ joined time rows columns salt key =
 unfoldable pub lineOf : Values → List ℕ
 lineOf v =
     joined (decimal (v .parameters .time)) (decimal (v .parameters .rows)) (decimal (v .parameters .columns)) (encode (v .salt)) (encode (v .key))
+
+-- the length of a line, by the lengths of salt and key: the marks take 17 bytes
+unfoldable pub lengthBy : Parameters → ℕ → ℕ → ℕ
+lengthBy p salt key =
+    17 + length (decimal (p .time)) + length (decimal (p .rows)) + length (decimal (p .columns)) + encodedLength salt + encodedLength key
 
 -- ---- read: each text ends before the first byte of the next mark
 

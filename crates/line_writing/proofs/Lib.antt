@@ -1,0 +1,2 @@
+-- The laws of writing a login line.
+pub mod WriteLaws

@@ -1,0 +1,2 @@
+-- What a login line is written from.
+pub mod Values
