@@ -5,6 +5,8 @@ use lib.ListN.{getD}
 use Rattle.settings.specs.declared.Parameters.{Parameters}
 use Rattle.settings.specs.declared.Lengths.{Lengths}
 use Rattle.derivation.specs.declared.Costs.{Costs}
+use Rattle.line_form.specs.declared.LineValues.{LineValues}
+use Rattle.line_form.specs.declared.LineLength.{LineLength}
 
 abbrev pub parameters : ℕ → ℕ → ℕ → Parameters
 parameters T R C = record { time = T; rows = R; columns = C }
@@ -15,3 +17,18 @@ lengthsOf key password salt = record { key = key; password = password; salt = sa
 -- the costs that a returned number and three stored counts are
 abbrev pub stored : ℕ → List ℕ → Costs
 stored number counts = record { refusal = number; full = getD counts 0 0; reduced = getD counts 1 0; rounds = getD counts 2 0 }
+
+-- the values of a line that a returned number and five stored numbers are
+abbrev pub storedValues : ℕ → List ℕ → LineValues
+storedValues number values =
+    record {
+      refusal = number;
+      time = getD values 0 0;
+      rows = getD values 1 0;
+      columns = getD values 2 0;
+      salt = getD values 3 0;
+      key = getD values 4 0;
+    }
+
+abbrev pub storedLength : ℕ → ℕ → LineLength
+storedLength number length = record { refusal = number; length = length }

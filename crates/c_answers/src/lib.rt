@@ -2,11 +2,13 @@
 // number is returned. These functions have no proof file, so that a field left alone is refused for what they ensure.
 use checking::Checked;
 use derivation::Costs;
+use line_form::LineLength;
+use line_form::LineValues;
 use recorded::Recording;
 use walk_question::WalkAnswer;
 ghost use mathlib.Core.Path.{_≡_};
 ghost use Rattle.derivation.specs.Answers.{flag as «number-of»};
-ghost use Rattle.c_answers.specs.Stored.{stored as «counts-stored»};
+ghost use Rattle.c_answers.specs.Stored.{stored as «counts-stored», storedValues, storedLength};
 
 // Stores the counts of an answer, and returns its number.
 pub fn store_costs(a: Costs, counts: &mut [u64; 3]) -> u32
@@ -40,5 +42,21 @@ pub fn store_row(a: WalkAnswer, row1: &mut usize) -> u32
     ensures { λ r. ⌜ (r ≡ a .refusal) × (now (row1 .exit) ≡ a .row1) ⌝ }
 {
     *row1 = a.row1;
+    a.refusal
+}
+
+// Stores the values of a login line, and returns the number of the answer.
+pub fn store_values(a: LineValues, values: &mut [usize; 5]) -> u32
+    ensures { λ r. ⌜ storedValues r (now (values .exit)) ≡ a ⌝ }
+{
+    *values = [a.time, a.rows, a.columns, a.salt, a.key];
+    a.refusal
+}
+
+// Stores the length of a login line, and returns the number of the answer.
+pub fn store_length(a: LineLength, length: &mut usize) -> u32
+    ensures { λ r. ⌜ storedLength r (now (length .exit)) ≡ a ⌝ }
+{
+    *length = a.length;
     a.refusal
 }

@@ -2,9 +2,11 @@
 // refusal, and the answer's other fields are stored, zeros where the call was refused. A refusal leaves key, matrix and record as
 // they were.
 use c_answers::store_costs;
+use c_answers::store_length;
 use c_answers::store_row;
 use c_answers::store_same;
 use c_answers::store_state;
+use c_answers::store_values;
 use settings::Lengths;
 use settings::Parameters;
 ghost use mathlib.Core.Path.{_≡_};
@@ -14,7 +16,9 @@ ghost use Rattle.refusals.specs.Checks.{first, costChecks};
 ghost use Rattle.derivation.specs.Answers.{costAnswer};
 ghost use Rattle.derivation.specs.Contracts.{Derived, Compared, Recorded};
 ghost use Rattle.walk_question.specs.Question.{walkAnswer};
-ghost use Rattle.c_answers.specs.Stored.{parameters, lengthsOf, stored as «counts-stored»};
+ghost use Rattle.line_form.specs.Contracts.{Read, Written};
+ghost use Rattle.line_writing.specs.Values.{values};
+ghost use Rattle.c_answers.specs.Stored.{parameters, lengthsOf, stored as «counts-stored», storedValues, storedLength};
 
 // The plain derivation: fills the key, and leaves zeros in the used matrix.
 #[no_mangle]
@@ -121,4 +125,38 @@ pub extern "C" fn lyra2_derive_recorded(
     let a = recorded::derive_recorded(password, salt, p, key, matrix, record);
     store_state(a, state);
     store_costs(a.costs, counts)
+}
+
+// Reads a login line: salt and key are put at the start of their outputs.
+#[no_mangle]
+pub extern "C" fn lyra2_line_read(
+    line: &[u8],
+    salt: &mut [u8],
+    key: &mut [u8],
+    values: &mut [usize; 5],
+) -> u32
+    ensures { λ r. ⌜ Read (now (line .entry)) (now (salt .entry)) (now (key .entry)) (now (salt .exit)) (now (key .exit)) (storedValues r (now (values .exit))) ⌝ }
+{
+    store_values(line_reading::read_line(line, salt, key), values)
+}
+
+// Writes a login line at the start of the output.
+#[no_mangle]
+pub extern "C" fn lyra2_line_write(
+    time: usize,
+    rows: usize,
+    columns: usize,
+    salt: &[u8],
+    key: &[u8],
+    line: &mut [u8],
+    length: &mut usize,
+) -> u32
+    ensures { λ r. ⌜ Written (values (parameters time rows columns) (now (salt .entry)) (now (key .entry))) (now (line .entry)) (now (line .exit)) (storedLength r (now (length .exit))) ⌝ }
+{
+    let p = Parameters {
+        time,
+        rows,
+        columns,
+    };
+    store_length(line_writing::write_line(p, salt, key, line), length)
 }
