@@ -2,3 +2,4 @@
 pub mod Cuts
 pub mod Inverse
 pub mod Lengths
+pub mod RoundTrip

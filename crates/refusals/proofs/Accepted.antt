@@ -3,6 +3,8 @@ use mathlib.Core.Path.{_≡_, refl, sym, ap, _∙_}
 use Prim.Native.Nat.{ℕ, _≤_, _<_, _+_, _*_}
 use native.Mathlib.Omega.{arith}
 use native.Mathlib.Nat.{le-trans, mul-le-mul}
+use native.Mathlib.Decide.{ℕ-discrete}
+use mathlib.Core.Logic.{_≢_}
 use mathlib.Core.Bool.{Bool, true, false, cond, _||_, true≢false}
 use mathlib.Core.List.{List, [], _∷_, _++_}
 use lib.Dec.{ltb}
@@ -89,6 +91,44 @@ first-append-pass [] ds h e = refl
 first-append-pass (c ∷ cs) ds h e =
     let p = passed (refuses c) (c .number) (first cs) (h .0) e in
     ap (λ (b : Bool). cond b (c .number) (first (cs ++ ds))) (p .0) ∙ first-append-pass cs ds (h .1) (p .1)
+
+-- where none of all refuses, none of the earlier ones does
+pub first-before : (cs ds : List Check) → first (cs ++ ds) ≡ 0 → first cs ≡ 0
+first-before cs ds e = go (ℕ-discrete (first cs) 0)
+  where
+    go : Dec (first cs ≡ 0) → first cs ≡ 0
+    go (yes z) = z
+    go (no h) = sym (first-append-refuse cs ds h) ∙ e
+
+-- ---- which check gave a number
+
+-- no check has this number
+abbrev pub Without : ℕ → List Check → Type 0
+Without n [] = Unit {0}
+Without n (c ∷ cs) = (c .number ≢ n) × Without n cs
+
+either : (b : Bool) (m n k : ℕ) → (m ≢ k) → (n ≡ k → ⊥) → cond b m n ≡ k → ⊥
+either true m n k h later e = h e
+either false m n k h later e = later e
+
+pub first-other : (n : ℕ) (cs : List Check) → Without n cs → 0 < n → first cs ≡ n → ⊥
+unfolding first
+first-other n [] h p e = omega arith
+first-other n (c ∷ cs) h p e = either (refuses c) (c .number) (first cs) n (h .0) (first-other n cs (h .1) p) e
+
+refused-alone : (b : Bool) (n : ℕ) → 0 < n → cond b n 0 ≡ n → b ≡ true
+refused-alone true n p e = refl
+refused-alone false n p e = absurd (omega arith)
+
+-- the last check, where no other has its number
+pub first-last : (cs : List Check) (c : Check) → Numbered cs → Without (c .number) cs → 0 < c .number → first (cs ++ (c ∷ [])) ≡ c .number
+    → (first cs ≡ 0) × (refuses c ≡ true)
+unfolding first
+first-last cs c numbered h p e = go (ℕ-discrete (first cs) 0)
+  where
+    go : Dec (first cs ≡ 0) → (first cs ≡ 0) × (refuses c ≡ true)
+    go (yes z) = (z, refused-alone (refuses c) (c .number) p (sym (first-append-pass cs (c ∷ []) numbered z) ∙ e))
+    go (no n) = absurd (first-other (c .number) cs h p (sym (first-append-refuse cs (c ∷ []) n) ∙ e))
 
 module _ (cs ds : List Check) {number : ℕ} (e : number ≡ first cs) where
   pub more-refuse : (number ≡ 0 → ⊥) → number ≡ first (cs ++ ds)
