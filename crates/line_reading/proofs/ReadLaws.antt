@@ -10,8 +10,8 @@ use lib.Dec.{ltb}
 use lib.ListN.{length}
 use borrow.Author.Tests.{lt-ltb, le-ltb}
 use Rattle.settings.specs.declared.Parameters.{Parameters}
-use Rattle.refusals.specs.Checks.{_≤?_, Check, broken, refuses, range, flag, first, keyCheck, shortSaltCheck, longSaltCheck, formCheck, outputCheck, storedChecks}
-use Rattle.refusals.proofs.Accepted.{accepted, first-refused, first-passed, more-refuse, more-pass}
+use Rattle.refusals.specs.Checks.{_≤?_, Check, broken, refuses, range, flag, first, answered, keyCheck, shortSaltCheck, longSaltCheck, formCheck, outputCheck, storedChecks}
+use Rattle.refusals.proofs.Accepted.{accepted, first-refused, first-passed, first-before, first-joined}
 use Rattle.refusals.proofs.Answered.{answered-yes, answered-no, answered-number}
 use Rattle.base64.specs.Base64.{decode, decodedLength}
 use Rattle.base64.proofs.Elements.{length-decode}
@@ -136,26 +136,24 @@ module _ (l : List ℕ) (s k : ℕ) where
     unfolding lineValues
     values-number e = e ∙ ap (λ (w : LineValues). first (checksOf w)) said ∙ capped-checks (lineValues (valuesOf l))
 
-    pub answer-values : {n : ℕ} {r : LineValues} → n ≡ first (checksOf v) → (n ≡ 0 → ⊥) → r ≡ noValues n → r ≡ readAnswer l s k
-    answer-values e h f =
-        refused (more-refuse (valueChecks (valuesOf l)) roomCheck (values-number e) h ∙ sym (later-number (form-accepted l is ok))) h f
-
-    module _ {n : ℕ} (e : n ≡ first (checksOf v)) (none : n ≡ 0) {m : ℕ}
-        (room : m ≡ first (outputCheck (v .salt ≤? s ∷ v .key ≤? k ∷ []) ∷ [])) where
-      room-number : m ≡ first (readChecks l s k)
+    module _ {a b n : ℕ} (values : a ≡ first (checksOf v)) (room : b ≡ first (outputCheck (v .salt ≤? s ∷ v .key ≤? k ∷ []) ∷ []))
+        (either : n ≡ answered a b a) where
+      number : n ≡ first (readChecks l s k)
       unfolding capped lineValues storedChecks
-      room-number =
-          more-pass (valueChecks (valuesOf l)) roomCheck (values-number e) (omega arith) none
-          (room ∙ ap (λ (w : LineValues). first (outputCheck (w .salt ≤? s ∷ w .key ≤? k ∷ []) ∷ [])) said)
+      number =
+          first-joined (valueChecks (valuesOf l)) roomCheck (omega arith) (values-number values)
+          (room ∙ ap (λ (w : LineValues). first (outputCheck (w .salt ≤? s ∷ w .key ≤? k ∷ []) ∷ [])) said) either
           ∙ sym (later-number (form-accepted l is ok))
 
-      pub answer-room : {r : LineValues} → (m ≡ 0 → ⊥) → r ≡ noValues m → r ≡ readAnswer l s k
-      answer-room h f = refused room-number h f
+      pub answer-refused : {r : LineValues} → (n ≡ 0 → ⊥) → r ≡ noValues n → r ≡ readAnswer l s k
+      answer-refused h f = refused number h f
 
-      pub answer-taken : m ≡ 0 → v ≡ readAnswer l s k
-      unfolding readAnswer lineValues
+      pub answer-taken : n ≡ 0 → v ≡ readAnswer l s k
+      unfolding readAnswer lineValues readChecks
       answer-taken z =
-          answered-yes _ _ (sym room-number ∙ z) (said ∙ capped-same (lineValues (valuesOf l)) (sym (values-number e) ∙ none))
+          let none = sym number ∙ z in
+          let accepted-values = first-before (valueChecks (valuesOf l)) roomCheck (sym (later-number (form-accepted l is ok)) ∙ none) in
+          answered-yes _ _ none (said ∙ capped-same (lineValues (valuesOf l)) accepted-values)
 
 -- ---- an accepted reading
 

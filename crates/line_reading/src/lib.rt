@@ -14,7 +14,7 @@ ghost use Prim.Native.Nat.{_≤_};
 ghost use mathlib.Core.List.{[], _∷_};
 ghost use lib.ListN.{length};
 ghost use Rattle.lists.specs.Zip.{putInto};
-ghost use Rattle.refusals.specs.Checks.{_≤?_, first, outputCheck};
+ghost use Rattle.refusals.specs.Checks.{_≤?_, first, answered, outputCheck};
 ghost use Rattle.base64.specs.Base64.{decode, decodedLength};
 ghost use Rattle.line_form.specs.Contracts.{Read, readAnswer};
 ghost use Rattle.line_texts.specs.Texts.{partOf};
@@ -25,6 +25,13 @@ fn output_refusal(salt: usize, salt_room: usize, key: usize, key_room: usize) ->
 {
     let later = first_of(below(key, key_room), OUTPUT_LENGTH, 0);
     first_of(below(salt, salt_room), OUTPUT_LENGTH, later)
+}
+
+// What earlier checks say, else what later ones do.
+fn earlier_of(earlier: u32, later: u32) -> u32
+    ensures { λ r. ⌜ r ≡ answered earlier later earlier ⌝ }
+{
+    if earlier == 0 { later } else { earlier }
 }
 
 // The answer, by the line and the room of the outputs.
@@ -40,13 +47,11 @@ fn answer(line: &[u8], salt_room: usize, key_room: usize) -> LineValues
         rows: v.rows,
         columns: v.columns,
     };
-    let refused = stored_refusal(v.key, v.salt, p);
-    if refused != 0 {
-        return no_values(refused);
-    }
-    let short = output_refusal(v.salt, salt_room, v.key, key_room);
-    if short != 0 {
-        return no_values(short);
+    let values = stored_refusal(v.key, v.salt, p);
+    let outputs = output_refusal(v.salt, salt_room, v.key, key_room);
+    let number = earlier_of(values, outputs);
+    if number != 0 {
+        return no_values(number);
     }
     v
 }

@@ -11,7 +11,8 @@ use lib.Dec.{ltb}
 use borrow.Author.Tests.{ltb-false}
 use Rattle.settings.specs.declared.Parameters.{Parameters}
 use Rattle.settings.specs.declared.Lengths.{Lengths}
-use Rattle.refusals.specs.Checks.{Bound, _≤?_, Check, broken, refuses, first, Kept, Accepted, costChecks, plainChecks, recordedChecks}
+use Rattle.refusals.proofs.Answered.{answered-yes, answered-no}
+use Rattle.refusals.specs.Checks.{answered, Bound, _≤?_, Check, broken, refuses, first, Kept, Accepted, costChecks, plainChecks, recordedChecks}
 
 -- numbers above 0
 abbrev pub Numbered : List Check → Type 0
@@ -136,6 +137,14 @@ module _ (cs ds : List Check) {number : ℕ} (e : number ≡ first cs) where
 
   pub more-pass : Numbered cs → number ≡ 0 → {r : ℕ} → r ≡ first ds → r ≡ first (cs ++ ds)
   more-pass h z f = f ∙ sym (first-append-pass cs ds h (sym e ∙ z))
+
+-- the same, as `earlier_of` decides it
+pub first-joined : (cs ds : List Check) → Numbered cs → {a b r : ℕ} → a ≡ first cs → b ≡ first ds → r ≡ answered a b a → r ≡ first (cs ++ ds)
+first-joined cs ds h {a} {b} {r} ea eb er = go (ℕ-discrete a 0)
+  where
+    go : Dec (a ≡ 0) → r ≡ first (cs ++ ds)
+    go (yes z) = more-pass cs ds ea h z (er ∙ sym (answered-yes b a z refl) ∙ eb)
+    go (no n) = more-refuse cs ds (er ∙ sym (answered-no b a refl n refl) ∙ ea) (λ z. n (answered-no b a refl n refl ∙ sym er ∙ z))
 
 -- ---- products within the limits
 

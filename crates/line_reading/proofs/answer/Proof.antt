@@ -1,6 +1,6 @@
--- `answer` meets its contract, return by return: the form, the values, the outputs. Assumes nothing.
+-- `answer` meets its contract, return by return: the form, then the values and the outputs. Assumes nothing.
 use denote.Ref.{now}
-use Rattle.line_reading.proofs.ReadLaws.{answer-form, answer-values, answer-room, answer-taken}
+use Rattle.line_reading.proofs.ReadLaws.{answer-form, answer-refused, answer-taken}
 use Rattle.line_reading.proofs.answer.Statement.{statement}
 use Rattle.line_reading.proofs.answer.Tie as tie
 
@@ -12,25 +12,18 @@ answer-spec =
     let form = c .before .before in
     let a = form .before .before .args in
     answer-form (now (a .line)) (a .salt-room) (a .key-room) (form .form-answer .ensures) (c .if1 .taken))
-    (λ c κs. tt) (λ c κs. tt)
+    (λ c κs. tt) (λ c κs. tt) (λ c κs. tt) (λ c κs. tt)
     (λ c.
-    let values = c .before .before in
+    let joined = c .before .before in
+    let values = joined .before .before in
     let form = values .before .before .before in
     let a = form .before .before .args in
-    answer-values (now (a .line)) (a .salt-room) (a .key-room) (form .form-answer .ensures) (values .before .if1 .left)
-    (values .stored-refusal .ensures) (c .before .if2 .taken) (c .no-values .ensures))
-    (λ c κs. tt) (λ c κs. tt)
+    answer-refused (now (a .line)) (a .salt-room) (a .key-room) (form .form-answer .ensures) (values .before .if1 .left)
+    (values .stored-refusal .ensures) (joined .before .output-refusal .ensures) (joined .earlier-of .ensures) (c .before .if2 .taken) (c .no-values .ensures))
     (λ c.
-    let room = c .before .before in
-    let values = room .before .before in
-    let form = values .before .before .before in
-    let a = form .before .before .args in
-    answer-room (now (a .line)) (a .salt-room) (a .key-room) (form .form-answer .ensures) (values .before .if1 .left)
-    (values .stored-refusal .ensures) (room .before .if2 .left) (room .output-refusal .ensures) (c .before .if3 .taken) (c .no-values2 .ensures))
-    (λ c.
-    let room = c .before in
-    let values = room .before .before in
+    let joined = c .before in
+    let values = joined .before .before in
     let form = values .before .before .before in
     let a = form .before .before .args in
     answer-taken (now (a .line)) (a .salt-room) (a .key-room) (form .form-answer .ensures) (values .before .if1 .left)
-    (values .stored-refusal .ensures) (room .before .if2 .left) (room .output-refusal .ensures) (c .if3 .left)))
+    (values .stored-refusal .ensures) (joined .before .output-refusal .ensures) (joined .earlier-of .ensures) (c .if2 .left)))
