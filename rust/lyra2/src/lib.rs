@@ -44,6 +44,28 @@
 //! # Ok::<(), lyra2::Refusal>(())
 //! ```
 //!
+//! # A login line
+//!
+//! A login line is text that holds all that a check needs beside the password: T, R, C, the salt and the key.
+//! docs/LOGIN-LINES.md describes it. The caller lends the outputs; [`LINE_MAX`], [`SALT_MAX`] and [`KEY_MAX`] bytes are
+//! never too few. The line is as secret as the key in it.
+//!
+//! ```
+//! use lyra2::{check, derive, read_line, write_line, Parameters, KEY_MAX, LINE_MAX, SALT_MAX};
+//!
+//! let parameters = Parameters { time: 1, rows: 8, columns: 4 };
+//! let (mut matrix, mut key, mut text) = ([0; 12 * 8 * 4], [0; 32], [0; LINE_MAX]);
+//! derive(b"password", b"saltsalt", parameters, &mut key, &mut matrix)?;
+//! let length = write_line(parameters, b"saltsalt", &key, &mut text)?;
+//! assert!(text.starts_with(b"$lyra2$t=1,r=8,c=4$c2FsdHNhbHQ$"));
+//!
+//! let (mut salt, mut key) = ([0; SALT_MAX], [0; KEY_MAX]);
+//! let line = read_line(&text[..length], &mut salt, &mut key)?;
+//! assert!(check(b"password", line.salt, line.parameters, line.key, &mut matrix)?.same);
+//! assert!(!check(b"Password", line.salt, line.parameters, line.key, &mut matrix)?.same);
+//! # Ok::<(), lyra2::Refusal>(())
+//! ```
+//!
 //! # Memory
 //!
 //! Any words can be lent: a `Vec`, an array, or a [`Memory`], which [`Parameters::matrix`] and [`Parameters::record`]
@@ -88,10 +110,12 @@
 #![forbid(unsafe_code)]
 #![warn(missing_docs)]
 
+mod line;
 mod operations;
 mod parameters;
 mod refusal;
 
+pub use line::{read_line, write_line, Line, KEY_MAX, LINE_MAX, SALT_MAX};
 pub use lyra2_memory::{Granted, Memory, NoMemory};
 pub use operations::{
     check, cost, derive, derive_recorded, walk, Checked, Counts, Recorded, STATE_WORDS,

@@ -28,11 +28,15 @@ pub enum Refusal {
     WalkRow = 9,
     /// The salt is too long.
     SaltTooLong = 10,
+    /// A text is not of the form of a login line.
+    LineForm = 11,
+    /// A lent output is too short for what is to be written there.
+    OutputLength = 12,
 }
 
 impl Refusal {
     /// Every refusal, by number. The order of an operation's checks is another; its documentation gives it.
-    pub const ALL: [Refusal; 10] = [
+    pub const ALL: [Refusal; 12] = [
         Refusal::KeyLength,
         Refusal::PasswordLength,
         Refusal::SaltTooShort,
@@ -43,6 +47,8 @@ impl Refusal {
         Refusal::RecordWords,
         Refusal::WalkRow,
         Refusal::SaltTooLong,
+        Refusal::LineForm,
+        Refusal::OutputLength,
     ];
 
     /// The refusal's number.
@@ -83,6 +89,12 @@ impl fmt::Display for Refusal {
             Refusal::SaltTooLong => {
                 let most = SALT_LENGTHS.end();
                 return write!(f, "the salt must be at most {most} bytes long");
+            }
+            Refusal::LineForm => {
+                return f.write_str("the line must be of the form $lyra2$t=T,r=R,c=C$SALT$KEY");
+            }
+            Refusal::OutputLength => {
+                return f.write_str("an output must be long enough for what is written there");
             }
         };
         write!(f, "{what} {} to {}{unit}", limits.start(), limits.end())

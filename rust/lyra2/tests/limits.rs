@@ -158,9 +158,9 @@ fn walk_questions() {
 }
 
 #[test]
-fn refusals_are_numbered_from_1_to_10_and_each_has_its_sentence() {
+fn refusals_are_numbered_from_1_to_12_and_each_has_its_sentence() {
     let numbers = Refusal::ALL.map(Refusal::number);
-    assert_eq!(numbers, [1, 2, 3, 4, 5, 6, 7, 8, 9, 10]);
+    assert_eq!(numbers, [1, 2, 3, 4, 5, 6, 7, 8, 9, 10, 11, 12]);
     let sentences = Refusal::ALL.map(|refusal| refusal.to_string());
     let named = [
         "1 to 1024",
@@ -173,6 +173,8 @@ fn refusals_are_numbered_from_1_to_10_and_each_has_its_sentence() {
         "R*T*(2+2*C) words",
         "3 to R-1",
         "at most 64 bytes",
+        "$lyra2$t=T,r=R,c=C$SALT$KEY",
+        "long enough",
     ];
     for (sentence, limit) in sentences.iter().zip(named) {
         assert!(sentence.contains(limit), "{sentence}");
