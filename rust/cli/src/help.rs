@@ -8,9 +8,18 @@ not shown.";
 /// That a password is typed twice.
 pub const TYPED_TWICE: &str = "A typed password is asked for twice.";
 
+/// A line made and used.
+pub const LINE_EXAMPLE: &str = "Example, in which a password is typed twice and then once:\n    \
+lyra2 line --time 1 --rows 1024 --columns 64 --key-length 32 --output line\n    \
+lyra2 login --line-file line";
+
 /// The exit status of the commands that do not answer yes or no.
 pub const STATUS: &str =
     "Exit status: 0 for a result, 2 for a refusal or anything that went wrong.";
+
+/// The exit status of the commands that do.
+pub const YES_OR_NO_STATUS: &str =
+    "Exit status: 0 for yes, 1 for no, 2 for a refusal or anything that went wrong.";
 
 /// The paragraphs with a blank line between them.
 pub fn paragraphs(all: &[&str]) -> String {

@@ -2,11 +2,12 @@
 
 use crate::failure::Failure;
 use crate::options::{CostOptions, PasswordOption, SaltOptions};
+use crate::outcome::Outcome;
 use crate::password::Typed;
 use crate::secret::{wipe_stack, Secret};
-use crate::{estimate, progress};
+use crate::{estimate, memory, progress};
 use clap::Args;
-use lyra2::{Checked, Counts, Lengths, Parameters, Recorded, Refusal};
+use lyra2::{Counts, Lengths, Parameters, Recorded, Refusal};
 
 /// Fewer reduced calls take less than a second on any machine that is likely, so that nothing has to be timed.
 const MANY_CALLS: u64 = 10_000_000;
@@ -34,8 +35,10 @@ impl InputOptions {
 
 /// What a derivation is made from, apart from the key length.
 pub struct Input {
-    password: Secret,
-    salt: Secret,
+    /// The password.
+    pub password: Secret,
+    /// The salt.
+    pub salt: Secret,
     /// The cost parameters.
     pub parameters: Parameters,
 }
@@ -70,11 +73,15 @@ impl Input {
         })
     }
 
-    /// The check.
-    pub fn check(&self, stored: &[u8], matrix: &mut [u64]) -> Result<Checked, Refusal> {
-        self.shown(stored.len(), |password, salt, parameters| {
-            lyra2::check(password, salt, parameters, stored, matrix)
-        })
+    /// The check, in a matrix of its own: yes if the stored key is the one that is derived, else no.
+    pub fn check(&self, stored: &[u8]) -> Result<Outcome, Failure> {
+        self.ask_cost(stored.len())?;
+        let mut matrix = memory::matrix(self.parameters)?;
+        let checked = self.shown(stored.len(), |password, salt, parameters| {
+            lyra2::check(password, salt, parameters, stored, &mut matrix)
+        })?;
+        let word = if checked.same { "yes\n" } else { "no\n" };
+        Ok(Outcome::answer(checked.same, word))
     }
 
     /// Makes a call for a key of this length, shows meanwhile how far it is, and wipes the stack that it used.

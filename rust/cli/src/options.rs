@@ -5,10 +5,11 @@
 use crate::failure::Failure;
 use crate::hex;
 use crate::password::{self, Typed};
+use crate::random;
 use crate::reading::{leave_out_newline, read_file};
 use crate::secret::Secret;
 use clap::{ArgGroup, Args};
-use lyra2::{Parameters, KEY_LENGTHS, SALT_LENGTHS};
+use lyra2::{Parameters, KEY_LENGTHS, SALT_MAX};
 use std::ffi::OsString;
 use std::path::PathBuf;
 
@@ -45,9 +46,13 @@ pub struct KeyLengthOption {
     pub key_length: usize,
 }
 
+/// Bytes of a salt that are taken at most: with one more than a salt has, the library refuses the length.
+const SALT_MOST: usize = SALT_MAX + 1;
+/// Bytes of a fresh salt that nobody gave a length for.
+const FRESH_SALT: usize = 16;
+
 #[derive(Args)]
-#[command(group = ArgGroup::new("one salt").required(true).args(["salt", "salt_file"]))]
-pub struct SaltOptions {
+struct GivenSalt {
     /// The salt in hexadecimal, 8 to 64 bytes
     #[arg(long, value_name = "HEX")]
     salt: Option<OsString>,
@@ -56,13 +61,46 @@ pub struct SaltOptions {
     salt_file: Option<PathBuf>,
 }
 
+impl GivenSalt {
+    fn read(&self) -> Result<Option<Secret>, Failure> {
+        if let Some(text) = &self.salt {
+            return hex::decode("--salt", text.as_encoded_bytes()).map(Some);
+        }
+        let path = self.salt_file.as_ref();
+        path.map(|path| read_file(path, SALT_MOST)).transpose()
+    }
+}
+
+#[derive(Args)]
+#[command(group = ArgGroup::new("one salt").required(true).args(["salt", "salt_file"]))]
+pub struct SaltOptions {
+    #[command(flatten)]
+    given: GivenSalt,
+}
+
 impl SaltOptions {
     pub fn read(&self) -> Result<Secret, Failure> {
-        if let Some(text) = &self.salt {
-            return hex::decode("--salt", text.as_encoded_bytes());
+        Ok(self.given.read()?.expect(ONE_IS_GIVEN))
+    }
+}
+
+#[derive(Args)]
+#[command(group = ArgGroup::new("one salt").args(["salt", "salt_file", "salt_length"]))]
+pub struct FreshSaltOptions {
+    #[command(flatten)]
+    given: GivenSalt,
+    /// Bytes of a random salt, 8 to 64
+    #[arg(long, value_name = "N", value_parser = decimal, allow_negative_numbers = true)]
+    salt_length: Option<usize>,
+}
+
+impl FreshSaltOptions {
+    /// The salt that is given, or one from the system's random source.
+    pub fn read(&self) -> Result<Secret, Failure> {
+        match self.given.read()? {
+            Some(salt) => Ok(salt),
+            None => random::bytes(self.salt_length.unwrap_or(FRESH_SALT).min(SALT_MOST)),
         }
-        let path = self.salt_file.as_ref().expect(ONE_IS_GIVEN);
-        read_file(path, SALT_LENGTHS.end() + 1)
     }
 }
 
@@ -96,7 +134,7 @@ impl StoredKeyOptions {
 pub struct PasswordOption {
     /// A file whose bytes are the password, all of them, a last newline too
     #[arg(long, value_name = "FILE")]
-    password_file: Option<PathBuf>,
+    pub password_file: Option<PathBuf>,
 }
 
 impl PasswordOption {

@@ -1,13 +1,11 @@
 //! The password: from a file, from standard input, or typed at a terminal.
 
 use crate::failure::Failure;
-use crate::reading::{leave_out_newline, read_bytes, read_file};
+use crate::reading::{leave_out_newline, read_file, read_standard_input};
 use crate::secret::Secret;
 use crate::terminal;
 use lyra2::PASSWORD_LENGTHS;
-use std::fs::File;
 use std::io::{self, ErrorKind, IsTerminal};
-use std::os::fd::AsFd;
 use std::path::Path;
 
 /// Bytes that are read at most: with one more than a password has, the library refuses the length.
@@ -30,16 +28,9 @@ pub fn read(file: Option<&Path>, typed: Typed) -> Result<Secret, Failure> {
     if io::stdin().is_terminal() {
         return type_in(typed);
     }
-    let mut password =
-        read_standard_input().map_err(|error| Failure::from_io("standard input", error))?;
+    let mut password = read_standard_input(MOST + 1)?;
     leave_out_newline(&mut password);
     Ok(password)
-}
-
-/// Reads by a handle of its own: the one of std keeps what it reads in a buffer that nobody wipes.
-fn read_standard_input() -> io::Result<Secret> {
-    let mut source = File::from(io::stdin().as_fd().try_clone_to_owned()?);
-    read_bytes(&mut source, MOST + 1)
 }
 
 fn type_in(typed: Typed) -> Result<Secret, Failure> {

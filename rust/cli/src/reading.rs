@@ -2,8 +2,10 @@
 
 use crate::failure::Failure;
 use crate::secret::{zeros, Secret};
-use std::fs::File;
+use std::fs::{self, File};
 use std::io::{self, ErrorKind, Read};
+use std::os::fd::AsFd;
+use std::os::unix::fs::MetadataExt;
 use std::path::Path;
 
 /// The bytes of a file, or the first ones if it has more than are asked for.
@@ -12,8 +14,35 @@ pub fn read_file(path: &Path, most: usize) -> Result<Secret, Failure> {
     read.map_err(|error| Failure::of_file(path, error))
 }
 
+/// The bytes of standard input, or the first ones if it has more than are asked for.
+pub fn read_standard_input(most: usize) -> Result<Secret, Failure> {
+    let read = standard_input().and_then(|mut input| read_bytes(&mut input, most));
+    read.map_err(|error| Failure::from_io("standard input", error))
+}
+
+/// A handle of its own for standard input: the one of std keeps what it reads in a buffer that nobody wipes.
+fn standard_input() -> io::Result<File> {
+    Ok(File::from(io::stdin().as_fd().try_clone_to_owned()?))
+}
+
+/// Whether two sources are the same file, as standard input and /dev/stdin are. A source without a path is standard
+/// input.
+pub fn are_same_file(sources: [Option<&Path>; 2]) -> Result<bool, Failure> {
+    let identity = |source: Option<&Path>| {
+        let found = match source {
+            Some(path) => fs::metadata(path).map_err(|error| Failure::of_file(path, error)),
+            None => standard_input()
+                .and_then(|input| input.metadata())
+                .map_err(|error| Failure::from_io("standard input", error)),
+        };
+        found.map(|found| (found.dev(), found.ino()))
+    };
+    let [one, other] = sources.map(identity);
+    Ok(one? == other?)
+}
+
 /// Reads until the input ends, or so many bytes.
-pub fn read_bytes(source: &mut impl Read, most: usize) -> io::Result<Secret> {
+fn read_bytes(source: &mut impl Read, most: usize) -> io::Result<Secret> {
     let mut bytes = zeros(most);
     let mut used = 0;
     while used < most {

@@ -5,6 +5,8 @@ mod compare;
 mod completions;
 mod cost;
 mod derive;
+mod line;
+mod login;
 mod manual;
 mod trial;
 mod walk;
@@ -31,6 +33,8 @@ answer no or different, 2 for a refusal or anything that went wrong, which one l
 enum Command {
     Derive(derive::Derive),
     Check(check::Check),
+    Line(line::Line),
+    Login(login::Login),
     Cost(cost::Cost),
     Walk(walk::Walk),
     Trial(trial::Trial),
@@ -44,6 +48,8 @@ impl Command {
         match self {
             Command::Derive(derive) => derive.run(),
             Command::Check(check) => check.run(),
+            Command::Line(line) => line.run(),
+            Command::Login(login) => login.run(),
             Command::Cost(cost) => cost.run(),
             Command::Walk(walk) => walk.run(),
             Command::Trial(trial) => trial.run(),

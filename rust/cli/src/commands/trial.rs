@@ -1,12 +1,12 @@
 //! `lyra2 trial`: a recorded derivation, left in an end-state file.
 
-use crate::end_state::replacement::Replacement;
 use crate::end_state::{write, Header};
 use crate::failure::Failure;
 use crate::input::{Input, InputOptions};
 use crate::options::KeyLengthOption;
 use crate::outcome::Outcome;
 use crate::password::Typed;
+use crate::replacement::Replacement;
 use crate::secret::{wipe_stack, zeros};
 use crate::{help, memory, progress};
 use clap::Args;

@@ -3,7 +3,6 @@
 pub mod checksum;
 pub mod compare;
 pub mod read;
-pub mod replacement;
 pub mod write;
 
 use lyra2::{Counts, Parameters, COLUMNS, KEY_LENGTHS, ROWS, STATE_WORDS, TIME_COSTS};

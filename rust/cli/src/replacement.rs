@@ -21,7 +21,7 @@ impl Replacement {
     pub fn create(target: &Path) -> io::Result<Replacement> {
         require_replaceable(target)?;
         let fresh = RandomState::new().build_hasher().finish();
-        let beside = target.with_file_name(format!(".lyra2-trial-{fresh:016x}"));
+        let beside = target.with_file_name(format!(".lyra2-new-{fresh:016x}"));
         // A new file only: no link is followed, and no file of someone else is taken.
         let mut options = OpenOptions::new();
         options.write(true).create_new(true).mode(0o600);
