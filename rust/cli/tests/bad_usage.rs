@@ -8,6 +8,7 @@ use std::process::Stdio;
 
 const DERIVE: &str = "derive --salt 0011223344556677 --time 1 --rows 3 --columns 1 --key-length 8";
 const CHECK: &str = "check --salt 0011223344556677 --time 1 --rows 3 --columns 1";
+const LINE: &str = "line --time 1 --rows 3 --columns 1 --key-length 8";
 const COST: &str = "cost --time 1 --rows 3 --columns 1 --key-length 8 --salt-length 8";
 
 /// A command line, cut at spaces, and what its line of failure has to say.
@@ -100,6 +101,22 @@ fn options_that_exclude_each_other_or_are_missing() {
     );
     says(COST, "lyra2 cost: --password-length is missing");
     says(
+        &format!("{LINE} --salt 00 --salt-length 8"),
+        "lyra2 line: --salt and --salt-length are both given",
+    );
+    says(
+        &format!("{LINE} --salt-file x --salt-length 8"),
+        "lyra2 line: --salt-file and --salt-length are both given",
+    );
+    says(
+        &format!("{LINE} --salt-file x --salt 00"),
+        "lyra2 line: --salt-file and --salt are both given",
+    );
+    says(
+        "login",
+        "lyra2 login: --line-file or --password-file is missing",
+    );
+    says(
         &DERIVE.replace("derive", "trial"),
         "lyra2 trial: --output is missing",
     );
@@ -151,6 +168,10 @@ fn secrets_in_the_wrong_place() {
         format!("{CHECK} --key hunter2"),
         format!("{CHECK} --key=hunter2"),
         format!("{CHECK} --key-file x hunter2"),
+        format!("{LINE} hunter2"),
+        format!("{LINE} --salt hunter2"),
+        "login --line-file x hunter2".to_string(),
+        "login --line hunter2".to_string(),
         "walk 8 3 hunter2".to_string(),
         "compare one two hunter2".to_string(),
         "compare one two -- --hunter2".to_string(),
@@ -246,6 +267,14 @@ fn files() {
         &format!("compare {name} {name}"),
         &format!("lyra2 compare: {no_file}"),
     );
+    says(
+        &format!("login --line-file {name}"),
+        &format!("lyra2 login: {no_file}"),
+    );
+    says(
+        &format!("login --password-file {name}"),
+        &format!("lyra2 login: {no_file}"),
+    );
     let salt_file = DERIVE.replace("--salt 0011223344556677", &format!("--salt-file {name}"));
     says(&salt_file, &format!("lyra2 derive: {no_file}"));
     let folder = ".";
@@ -253,6 +282,10 @@ fn files() {
     says(
         &format!("{DERIVE} --password-file {folder}"),
         &format!("lyra2 derive: {is_folder}"),
+    );
+    says(
+        &format!("login --line-file {folder}"),
+        &format!("lyra2 login: {is_folder}"),
     );
     let trial = DERIVE.replace("derive", "trial");
     for output in [folder, "..", "/", "nothing/", "nothing/."] {
@@ -309,48 +342,67 @@ fn a_refusal_comes_before_any_memory_is_set_aside() {
 /// A limit on the process' memory, since the machine may have enough for any matrix.
 #[test]
 fn memory_that_is_not_there() {
-    let large = DERIVE
-        .replace("--rows 3", "--rows 16384")
-        .replace("--columns 1", "--columns 256");
-    let mut program = limited(200_000, &large);
-    let ended = program.stdin(Stdio::null()).output().expect("a shell");
-    let line = "lyra2 derive: no memory for the matrix of 402653184 bytes\n";
-    assert_eq!(String::from_utf8_lossy(&ended.stderr), line);
-    assert_eq!(ended.status.code(), Some(2));
+    let largest = |line: &str| {
+        line.replace("--rows 3", "--rows 16384")
+            .replace("--columns 1", "--columns 256")
+    };
+    let line = TemporaryFile::holding(b"$lyra2$t=1,r=16384,c=256$c2FsdHNhbHQ$AAAA");
+    let login = format!("login --line-file {}", line.name());
+    for arguments in [largest(DERIVE), largest(LINE), login] {
+        let mut program = limited(200_000, &arguments);
+        let ended = program.stdin(Stdio::null()).output().expect("a shell");
+        let name = words(&arguments)[0];
+        let line = format!("lyra2 {name}: no memory for the matrix of 402653184 bytes\n");
+        assert_eq!(String::from_utf8_lossy(&ended.stderr), line);
+        assert_eq!(ended.status.code(), Some(2));
+    }
+}
+
+/// A file with a line, and the commands that print a key, a line and an answer.
+fn printing() -> (TemporaryFile, [String; 3]) {
+    let line = TemporaryFile::holding(b"$lyra2$t=1,r=3,c=1$c2FsdHNhbHQ$AAAA");
+    let login = format!("login --line-file {}", line.name());
+    (line, [DERIVE.to_string(), LINE.to_string(), login])
 }
 
 /// The program waits for the password while the reading end of its output is closed.
 #[test]
 fn an_output_that_nobody_reads() {
-    let mut child = command()
-        .args(words(DERIVE))
-        .stdin(Stdio::piped())
-        .stdout(Stdio::piped())
-        .stderr(Stdio::piped())
-        .spawn()
-        .expect("the program starts");
-    drop(child.stdout.take());
-    let mut input = child.stdin.take().expect("a pipe");
-    input.write_all(b"pass").expect("the program reads");
-    drop(input);
-    let ended = child.wait_with_output().expect("the program ends");
-    let line = "lyra2: standard output: Broken pipe (os error 32)\n";
-    assert_eq!(String::from_utf8_lossy(&ended.stderr), line);
-    assert_eq!(ended.status.code(), Some(2));
+    let (_line, printing) = printing();
+    for arguments in printing {
+        let mut child = command()
+            .args(words(&arguments))
+            .stdin(Stdio::piped())
+            .stdout(Stdio::piped())
+            .stderr(Stdio::piped())
+            .spawn()
+            .expect("the program starts");
+        drop(child.stdout.take());
+        let mut input = child.stdin.take().expect("a pipe");
+        input.write_all(b"pass").expect("the program reads");
+        drop(input);
+        let ended = child.wait_with_output().expect("the program ends");
+        let line = "lyra2: standard output: Broken pipe (os error 32)\n";
+        assert_eq!(String::from_utf8_lossy(&ended.stderr), line);
+        assert_eq!(ended.status.code(), Some(2));
+    }
 }
 
 #[test]
 fn a_full_disk_and_no_standard_error() {
     let full = || std::fs::File::create("/dev/full").expect("the device");
-    let mut derive = command();
-    derive
-        .args(words(DERIVE))
-        .stdin(Stdio::null())
-        .stdout(full());
-    let ended = derive.output().expect("the program ends");
-    assert_eq!(ended.status.code(), Some(2));
-    let line = "lyra2: standard output: No space left on device (os error 28)\n";
-    assert_eq!(String::from_utf8_lossy(&ended.stderr), line);
+    let (_line, printing) = printing();
+    for arguments in printing {
+        let mut program = command();
+        program
+            .args(words(&arguments))
+            .stdin(Stdio::null())
+            .stdout(full());
+        let ended = program.output().expect("the program ends");
+        assert_eq!(ended.status.code(), Some(2));
+        let line = "lyra2: standard output: No space left on device (os error 28)\n";
+        assert_eq!(String::from_utf8_lossy(&ended.stderr), line);
+    }
     let status = command().arg("deduce").stderr(full()).status();
     assert_eq!(status.expect("the program ends").code(), Some(2));
 }

@@ -4,9 +4,11 @@ mod common;
 
 use common::{lyra2, words};
 
-const COMMANDS: [&str; 8] = [
+const COMMANDS: [&str; 10] = [
     "derive",
     "check",
+    "line",
+    "login",
     "cost",
     "walk",
     "trial",
@@ -88,7 +90,7 @@ fn every_command_has_its_help_three_ways() {
 #[test]
 fn the_help_names_the_options_that_there_are() {
     let options = "password-file salt salt-file time rows columns key-length key key-file output \
-                   password-length salt-length";
+                   password-length salt-length line-file";
     for command in COMMANDS {
         let help = lyra2(&["help", command], b"").result();
         for option in words(options) {

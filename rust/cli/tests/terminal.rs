@@ -104,6 +104,58 @@ fn a_check_asks_once() {
     assert_eq!(found, (Some(1), format!("{FIRST}\nno\n")));
 }
 
+/// The salts are random, so the lines are told by whether a login takes them.
+#[test]
+fn a_line_asks_twice_and_a_login_once() {
+    let file = TemporaryFile::new();
+    let costs = "--time 1 --rows 4 --columns 2 --key-length 32";
+    let line = format!("lyra2 line {costs} --output {}", file.name());
+    let twice: [(&str, &[u8]); 2] = [(FIRST, b"secret\n"), (SECOND, b"secret\n")];
+    let found = typed(&line, &twice);
+    assert_eq!(found, (Some(0), format!("{FIRST}\n{SECOND}\n")));
+    let login = format!("lyra2 login --line-file {}", file.name());
+    let found = typed(&login, &[(FIRST, b"secret\n")]);
+    assert_eq!(found, (Some(0), format!("{FIRST}\nyes\n")));
+    let found = typed(&login, &[(FIRST, b"Secret\n")]);
+    assert_eq!(found, (Some(1), format!("{FIRST}\nno\n")));
+    let old = file.bytes();
+    let slip: [(&str, &[u8]); 2] = [(FIRST, b"secret\n"), (SECOND, b"Secret\n")];
+    let (status, shown) = typed(&line, &slip);
+    assert_eq!(status, Some(2));
+    assert!(
+        shown.ends_with("two different passwords were typed\n"),
+        "{shown}"
+    );
+    assert_eq!(file.bytes(), old);
+}
+
+/// The two commands of the help, as they stand there.
+#[test]
+fn the_example_of_the_help() {
+    for command in ["line", "login"] {
+        let help = lyra2(&["help", command], b"").result();
+        let commands: Vec<&str> = help
+            .lines()
+            .filter_map(|line| line.strip_prefix("    lyra2 "))
+            .collect();
+        let [make, log_in] = commands[..] else {
+            panic!("two commands are due: {help}");
+        };
+        let (file, name) = (TemporaryFile::new(), " line");
+        assert!(make.ends_with(name) && log_in.ends_with(name), "{help}");
+        let script = [make, log_in]
+            .map(|line| format!("lyra2 {} {}", line.trim_end_matches(name), file.name()))
+            .join("; ");
+        let again = "Password: \r\nThe same again: \r\nPassword: ";
+        let found = typed(
+            &script,
+            &[FIRST, SECOND, again].map(|prompt| (prompt, &b"secret\n"[..])),
+        );
+        let shown = format!("{FIRST}\n{SECOND}\n{FIRST}\nyes\n");
+        assert_eq!(found, (Some(0), shown), "{command}");
+    }
+}
+
 /// Nothing of the line is left to the shell, which would take it for a command.
 #[test]
 fn a_long_line_is_refused_whole() {
@@ -139,6 +191,10 @@ fn nothing_is_typed_for_a_command_that_is_asked_wrongly() {
     let wrong = DERIVE.replace("--rows 4", "--rows four");
     let line = "lyra2 derive: --rows: \"four\" is not a number in decimal digits\n";
     let found = typed(&format!("lyra2 {wrong}"), &[]);
+    assert_eq!(found, (Some(2), line.to_string()));
+    let file = TemporaryFile::holding(b"$lyra2$t=1,r=2,c=1$c2FsdHNhbHQ$AAAA\n");
+    let line = "lyra2 login: refused 5: the number of rows R must be 3 to 16384\n";
+    let found = typed(&format!("lyra2 login --line-file {}", file.name()), &[]);
     assert_eq!(found, (Some(2), line.to_string()));
 }
 

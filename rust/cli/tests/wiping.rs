@@ -1,10 +1,12 @@
 //! What is left of the password, the key, the state and the matrix in the program's memory when it prints its result.
 //!
 //! The program's output goes to a pipe that is full, so that it waits there with its result in hand, and its memory
-//! is searched meanwhile. The result's text must be found, which shows that the search sees something.
+//! is searched meanwhile. The result's text must be found, or for an answer that is too short an argument, which shows
+//! that the search sees something.
 
 mod common;
 
+use common::line::{encode, Line};
 use common::terminal::Terminal;
 use common::{command, hex, words, TemporaryFile};
 use lyra2_reference::{derive_recorded, Inputs};
@@ -106,22 +108,36 @@ fn left_by(line: &str, input: &[u8], text: &str) -> Vec<&'static str> {
     left
 }
 
-/// The names of the traces that stay in the memory of a process while it holds the text that it prints.
+/// Whether a process waits to write to its standard output; the number of the call is that of x86-64.
+fn waits_to_print(process: u32) -> bool {
+    let call = std::fs::read_to_string(format!("/proc/{process}/syscall"));
+    call.is_ok_and(|call| call.starts_with("1 0x1 "))
+}
+
+/// The names of the traces that stay in the memory of a process that waits to print and holds this text. A form of the
+/// key that is in the text stays, of course.
 fn traces_left(process: u32, text: &str) -> Vec<&'static str> {
     let Due { key, state, matrix } = Due::new();
+    let (digits, letters) = (hex(&key[..30]), encode(&key[..30]));
     // The library holds what it works on in words, so a part of the password or the key is searched for.
-    let traces = [
+    let mut traces = vec![
         ("the password", &PASSWORD[..16]),
         ("the key", &key[..16]),
+        ("the key in hexadecimal", digits.as_bytes()),
+        ("the key in base 64", letters.as_bytes()),
         ("the state's start", &state[..24]),
         ("the state's end", &state[state.len() - 24..]),
         ("the matrix's start", &matrix[..24]),
         ("the matrix's end", &matrix[matrix.len() - 24..]),
     ];
+    traces.retain(|(_, trace)| !holds(&[text.into()], trace));
     let began = Instant::now();
     let mut left = vec!["no text"];
     while !left.is_empty() && began.elapsed() < PATIENCE {
         std::thread::sleep(Duration::from_millis(50));
+        if !waits_to_print(process) {
+            continue;
+        }
         let memory = memory(process);
         if holds(&memory, text.as_bytes()) {
             let stays = traces.iter().filter(|(_, trace)| holds(&memory, trace));
@@ -190,6 +206,29 @@ fn of_a_trial_nothing_is_left() {
     let bytes = 8 * (9 + 16 + MATRIX_WORDS + RECORD_WORDS + 1);
     let text = format!("{bytes} bytes, checksum ");
     assert_eq!(left_by(&line, PASSWORD, &text), NOTHING);
+}
+
+/// The line that is made of the password.
+fn login_line() -> String {
+    Line::of_password(PASSWORD, [1, 16, 4], b"saltsalt", 64).write()
+}
+
+#[test]
+fn of_a_line_nothing_but_its_text_is_left() {
+    let line = line("line", "");
+    assert_eq!(left_by(&line, PASSWORD, &login_line()), NOTHING);
+}
+
+#[test]
+fn of_a_login_nothing_is_left() {
+    let [line, password] =
+        [login_line().as_bytes(), PASSWORD].map(|bytes| TemporaryFile::holding(bytes));
+    let by_line_file = format!("login --line-file {}", line.name());
+    assert_eq!(left_by(&by_line_file, PASSWORD, line.name()), NOTHING);
+    let by_password_file = format!("login --password-file {}", password.name());
+    let input = login_line() + "\n";
+    let left = left_by(&by_password_file, input.as_bytes(), password.name());
+    assert_eq!(left, NOTHING);
 }
 
 /// The shell says its number and becomes the program, whose output is the full pipe.

@@ -2,6 +2,7 @@
 #![allow(dead_code)]
 
 pub mod end_state;
+pub mod line;
 pub mod terminal;
 
 use std::io::Write;
