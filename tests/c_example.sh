@@ -1,6 +1,6 @@
 #!/usr/bin/env bash
-# The C example compiles without a warning and prints what is due, refusals included; the header also serves C11 and C++.
-# rust/derivation-link/tests/c_example.rs holds what is due against the second program.
+# The C examples compile without a warning and print what is due, refusals included; the header also serves C11 and C++.
+# rust/derivation-link/tests/c_example.rs and rust/cli/tests/documents.rs hold what is due against the second program.
 set -eu
 cd "$(dirname "$0")/.."
 . tests/c/build.sh
@@ -84,4 +84,52 @@ for arguments in '' 'saltsalt 1 3 1' 'saltsalt 1 3 1 32 1' 'saltsalt x 3 1 32' '
     same "status of '$arguments'" 2 "$status"
     grep -q '^usage: ' "$work/log" || { echo "no usage for '$arguments'"; exit 1; }
 done
-echo "the C example prints the key $key and refuses with its sentences"
+
+# ---- the example of a login line: the line, both answers, and each refusal in words
+cc "${flags[@]}" examples/login_line.c "$library" -o "$work/login"
+login() { # WHAT STATUS DUE PASSWORD ARGUMENT..
+    local status=0 found
+    found=$(printf '%s' "$4" | "$work/login" "${@:5}" 2>&1) || status=$?
+    same "$1" "$3" "$found"
+    same "status of $1" "$2" "$status"
+}
+line=$(cat examples/login_line.out)
+login 'the line' 0 "$line" "$password" "${numbers[@]}"
+grep -qF "$line" docs/LINKING.md || { echo 'docs/LINKING.md does not show the line'; exit 1; }
+printf '%s' "$line" >"$work/bare"
+login 'a login' 0 yes "$password" examples/login_line.out
+login 'a login without a newline' 0 yes "$password" "$work/bare"
+login 'a wrong password' 1 no "$password " examples/login_line.out
+login 'a password that is too long' 2 'refused 2: the password may have at most 1024 bytes' "$(printf '%01025d' 0)" examples/login_line.out
+no_line='refused 11: the line is not of the form $lyra2$t=T,r=R,c=C$SALT$KEY'
+for text in '' '\n' "$line\\n\\n" "$line\\r\\n" "${line/t=1/t=01}" "$line="; do
+    printf '%b' "$text" >"$work/line"
+    login "a login with '$text'" 2 "$no_line" "$password" "$work/line"
+done
+printf '%s\n' "${line/r=256/r=2}" >"$work/line"
+login 'a line with two rows' 2 'refused 5: the number of rows has to be 3 to 16384' "$password" "$work/line"
+# With a number of many digits a line is as long as the longest, and then a byte longer.
+digits=$(printf '%0*d' $((1480 - ${#line})) 0)
+printf '%s\n' "${line/t=1/t=1$digits}" >"$work/line"
+login 'a line of 1480 bytes' 2 'refused 4: the time cost may be at most 255' "$password" "$work/line"
+printf '%s\n' "${line/t=1/t=10$digits}" >"$work/line"
+login 'a line of 1481 bytes' 2 'the file is longer than any line' "$password" "$work/line"
+login 'a file without an end' 2 'the file is longer than any line' "$password" /dev/zero
+login 'no file' 2 "the line's file cannot be opened" "$password" "$work/nothing"
+login 'a folder' 2 "the line's file cannot be read" "$password" "$work"
+login 'a salt that is too short' 2 'refused 3: the salt has to have at least 8 bytes' "$password" saltsal 1 3 1 32
+login 'no key' 2 'refused 1: the key has to have 1 to 1024 bytes' "$password" saltsalt 1 3 1 0
+longest=$(printf '%s' "$password" | "$work/login" "$(printf '%064d' 0)" 255 3 1 1024)
+same 'bytes of a line with the longest salt and key' 1474 "${#longest}"
+for arguments in '' 'saltsalt 1 3 1' 'saltsalt 1 3 1 32 1' 'saltsalt x 3 1 32' 'saltsalt 1 3 1 32x'; do
+    status=0
+    # The words are the arguments.
+    # shellcheck disable=SC2086
+    "$work/login" $arguments </dev/null >"$work/out" 2>"$work/log" || status=$?
+    same "status of '$arguments'" 2 "$status"
+    grep -q '^usage: ' "$work/log" || { echo "no usage for '$arguments'"; exit 1; }
+done
+status=0
+printf '%s' "$password" | "$work/login" "${numbers[@]}" >/dev/full 2>"$work/log" || status=$?
+same 'a line that cannot be written' 'the line cannot be written 2' "$(cat "$work/log") $status"
+echo "the C examples print the key $key and its login line, and refuse with their sentences"

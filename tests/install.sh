@@ -25,6 +25,7 @@ listed='0755 bin/lyra2
 0644 share/doc/lyra2/LICENSE
 0644 share/doc/lyra2/derive_and_check.c
 0644 share/doc/lyra2/installed.txt
+0644 share/doc/lyra2/login_line.c
 0644 share/fish/vendor_completions.d/lyra2.fish
 0644 share/man/man1/lyra2.1
 0644 share/zsh/site-functions/_lyra2'
@@ -42,7 +43,9 @@ same 'what the install says' "$(sed "s|^[0-7]* |installed $prefix/|" <<<"$listed
 cmp "$root/target/staticlib/libderivation_export.a" "$prefix/lib/liblyra2.a"
 cmp "$root/include/lyra2.h" "$prefix/include/lyra2.h"
 cmp "$root/LICENSE" "$prefix/share/doc/lyra2/LICENSE"
-cmp "$root/examples/derive_and_check.c" "$prefix/share/doc/lyra2/derive_and_check.c"
+for example in derive_and_check login_line; do
+    cmp "$root/examples/$example.c" "$prefix/share/doc/lyra2/$example.c"
+done
 while read -r _ file; do
     grep -qF "${file##*/}" "$root/docs/INSTALL.md" || { echo "docs/INSTALL.md does not name $file"; exit 1; }
     [ "$file" = bin/lyra2 ] || ! grep -qF "$root" "$prefix/$file" || { echo "$file names the repository"; exit 1; }
@@ -55,11 +58,13 @@ shown=$(grep -oE '\b[0-9a-f]{64}\b' "$root/README.md")
 key=$(printf 'correct horse battery staple' |
     "$program" derive --salt 30313233343536373839616263646566 --time 1 --rows 1024 --columns 64 --key-length 32)
 same 'the key of README.md' "$shown" "$key"
+printf 'correct horse' | "$program" line --time 1 --rows 64 --columns 16 --key-length 32 --output line
+same 'a login' yes "$(printf 'correct horse' | "$program" login --line-file line)"
 
 # ---- a C program by pkg-config alone, from under either prefix; of a path with a space the shell has to see the backslashes
 "$install" "$work/plain/../plain/" >/dev/null
 same 'the files under a plain prefix' "$listed" "$(files_under "$work/plain")"
-cp "$root/examples/derive_and_check.c" .
+cp "$root"/examples/*.c .
 example_prints() { # WHAT
     same "$1" "$(cat "$root/examples/derive_and_check.out")" "$(printf 'correct horse' | ./example 'salt of 16 bytes' 1 256 64 32)"
     rm example
@@ -70,6 +75,9 @@ example_prints() { # WHAT
     # shellcheck disable=SC2046
     cc -std=c99 -Wall -Werror $(pkg-config --cflags lyra2) derive_and_check.c $(pkg-config --libs lyra2) -o example
     example_prints 'the C example'
+    # shellcheck disable=SC2046
+    cc -std=c99 -Wall -Werror $(pkg-config --cflags lyra2) login_line.c $(pkg-config --libs lyra2) -o login
+    same 'the C example of a login line' yes "$(printf 'correct horse' | ./login line)"
 )
 export PKG_CONFIG_PATH=$prefix/lib/pkgconfig
 eval "cc -std=c99 -Wall -Werror $(pkg-config --cflags lyra2) derive_and_check.c $(pkg-config --libs lyra2) -o example"
@@ -84,7 +92,7 @@ unset PKG_CONFIG_PATH
 groff -K utf8 -man -rHY=0 -Tutf8 -ww "$prefix/share/man/man1/lyra2.1" >"$work/page" 2>"$work/said"
 same 'warnings about the manual page' '' "$(cat "$work/said")"
 commands=$("$program" help | sed -nE 's/^  ([a-z][a-z-]*)(  .*)?$/\1/p')
-for command in derive check cost walk trial compare completions manual; do
+for command in derive check line login cost walk trial compare completions manual; do
     grep -qx "$command" <<<"$commands" || { echo "the help does not list $command"; exit 1; }
 done
 # What is bold or underlined has escapes around it, or is struck twice.
