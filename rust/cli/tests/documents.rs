@@ -2,6 +2,7 @@
 
 mod common;
 
+use common::line::{encode, Line};
 use common::{hex, lyra2, words, TemporaryFile};
 use lyra2_reference::refusal::{COST_CHECKS, PLAIN_CHECKS, RECORDED_CHECKS, WALK_CHECKS};
 use lyra2_reference::{derive, Inputs, Refusal};
@@ -68,16 +69,26 @@ fn the_orders_of_the_checks_are_the_second_programs() {
     ]
     .map(|(name, checks)| (name.to_string(), listed(checks)))
     .into();
+    let lines = [
+        ("line_read", "11, 1, 3, 10, 4, 5, 6, 12"),
+        ("line_write", "1, 3, 10, 4, 5, 6, 12"),
+    ]
+    .map(|(name, checks)| (name.to_string(), checks.to_string()));
+    let with_lines: BTreeMap<_, _> = due.clone().into_iter().chain(lines.clone()).collect();
     let header = document("include/lyra2.h");
-    assert_eq!(orders(&header, " *     ", "  "), due);
+    assert_eq!(orders(&header, " *     ", "  "), with_lines);
     let page = document("vectors/README.md");
     assert_eq!(orders(&page, "| `", " | "), due);
-    let code = document("rust/lyra2/src/operations.rs");
-    let lines = code.lines().filter_map(|line| line.strip_prefix("/// "));
-    let words = lines.collect::<Vec<_>>().join(" ");
-    for checks in [RECORDED_CHECKS, PLAIN_CHECKS, COST_CHECKS] {
-        let sentence = format!("in the order of the checks: {}.", listed(checks));
-        assert!(words.contains(&sentence), "{sentence}");
+    let code = ["operations", "line"].map(|name| document(&format!("rust/lyra2/src/{name}.rs")));
+    let comments = code.concat();
+    let comments = comments
+        .lines()
+        .filter_map(|line| line.strip_prefix("/// "));
+    let comments = comments.collect::<Vec<_>>().join(" ");
+    let checks = [RECORDED_CHECKS, PLAIN_CHECKS, COST_CHECKS].map(listed);
+    for checks in checks.into_iter().chain(lines.map(|(_, checks)| checks)) {
+        let sentence = format!("in the order of the checks: {checks}.");
+        assert!(comments.contains(&sentence), "{sentence}");
     }
 }
 
@@ -115,4 +126,88 @@ fn the_example_of_an_end_state_file() {
     for (offset, part) in shown {
         assert_eq!(bytes[offset..offset + part.len()], part, "{offset:x}");
     }
+}
+
+/// The commands of a document that give the program this password.
+fn commands<'a>(document: &'a str, password: &str) -> Vec<&'a str> {
+    let start = format!("    printf '{password}' | lyra2 ");
+    let lines = document.lines();
+    lines.filter_map(|line| line.strip_prefix(&start)).collect()
+}
+
+#[test]
+fn the_example_of_a_login_line() {
+    let text = document("docs/LOGIN-LINES.md");
+    let password = "correct horse battery staple";
+    let salt = b"0123456789abcdef";
+    let line = Line::of_password(password.as_bytes(), [1, 1024, 64], salt, 32).write();
+    assert!(text.lines().any(|shown| shown.trim() == line), "{line}");
+    let [make, log_in] = commands(&text, password)[..] else {
+        panic!("two commands are due");
+    };
+    let printed = lyra2(&words(make), password.as_bytes()).result();
+    assert_eq!(printed, line + "\n");
+    let file = TemporaryFile::holding(printed.as_bytes());
+    let log_in = log_in.replace("--line-file line", &format!("--line-file {}", file.name()));
+    assert!(log_in.contains(file.name()));
+    let answer = lyra2(&words(&log_in), password.as_bytes()).result();
+    assert!(text.contains(&format!("prints `{}`", answer.trim_end())));
+}
+
+/// The rows of the page's tables start with the refusal's number and end with the line.
+#[test]
+fn the_refused_lines_of_the_page() {
+    let text = document("docs/LOGIN-LINES.md");
+    let rows = text.lines().filter_map(|row| {
+        let (number, rest) = row.strip_prefix("| ")?.split_once(" | ")?;
+        let (_, line) = rest.strip_suffix("` |")?.rsplit_once(" | `")?;
+        Some((number.parse::<u32>().expect("a number"), line))
+    });
+    let rows: Vec<(u32, &str)> = rows.collect();
+    for (number, line) in &rows {
+        let file = TemporaryFile::holding(line.as_bytes());
+        let found = lyra2(&["login", "--line-file", file.name()], b"").failure();
+        let due = format!("lyra2 login: refused {number}: ");
+        assert!(found.starts_with(&due), "{line}: {found}");
+    }
+    let numbers: Vec<u32> = rows.iter().map(|(number, _)| *number).collect();
+    assert_eq!(numbers[..7], [11, 1, 3, 10, 4, 5, 6]);
+    assert!(numbers[7..].len() >= 12 && numbers[7..].iter().all(|number| *number == 11));
+}
+
+#[test]
+fn the_letters_of_the_page() {
+    let text = document("docs/LOGIN-LINES.md");
+    let [whole, last] = [&b"saltsalt"[..], b"lt"].map(encode);
+    assert!(whole.ends_with(&last) && text.contains(&format!("`{last}`")));
+    let letters: Vec<String> = last.chars().map(String::from).collect();
+    let mut shown = text
+        .lines()
+        .filter_map(|line| line.trim().strip_prefix("letters "));
+    assert_eq!(words(shown.next().expect("the letters")), letters);
+    // The last letters that leave their unused bits zero, and no others.
+    for (rule, bytes) in [("last-of-2", 1), ("last-of-3", 2)] {
+        let lines = text.lines().map(str::trim);
+        let rule = lines.filter_map(|line| line.strip_prefix(rule)?.strip_prefix(" = "));
+        let named: Vec<&str> = rule
+            .flat_map(|rule| rule.split('"').skip(1).step_by(2))
+            .collect();
+        let mut due: Vec<String> = (0..=255u8)
+            .map(|byte| encode(&[byte; 2][..bytes]))
+            .map(|text| text.chars().last().expect("letters").to_string())
+            .collect();
+        let mut named: Vec<String> = named.into_iter().map(String::from).collect();
+        for letters in [&mut due, &mut named] {
+            letters.sort();
+        }
+        due.dedup();
+        assert_eq!(named, due);
+    }
+}
+
+/// tests/c_example.sh holds the example to this.
+#[test]
+fn the_line_of_the_c_example_is_the_second_programs() {
+    let line = Line::of_password(b"correct horse", [1, 256, 64], b"salt of 16 bytes", 32).write();
+    assert_eq!(document("examples/login_line.out"), line + "\n");
 }
