@@ -5,6 +5,8 @@ mod common;
 use common::line::{encode, Line};
 use common::{command, hex, lyra2, words, Run, TemporaryFile};
 use std::ffi::{c_int, c_ulong, c_void};
+use std::fs::File;
+use std::io::Seek;
 use std::os::unix::fs::PermissionsExt;
 use std::os::unix::process::CommandExt;
 use std::process::{Command, Stdio};
@@ -466,6 +468,7 @@ fn long_and_endless_files() {
         (MOST, "\n", true),
         (MOST + 1, "", false),
         (MOST + 1, "\n", false),
+        (MOST, "\n\n", false),
         (3 * MOST, "\n", false),
     ] {
         let digits = "0".repeat(count - start.len() - rest.len());
@@ -484,6 +487,13 @@ fn long_and_endless_files() {
     }
     let line = lyra2(&words("login --line-file /dev/zero"), b"pass").failure();
     assert!(line.contains("more than 1048576 bytes"), "{line}");
+    // The program reads by a handle that shares its place with ours.
+    let file = TemporaryFile::holding(&[b'0'; 3 * MOST]);
+    let mut input = File::open(file.path()).expect("the file");
+    let handle = input.try_clone().expect("a second handle");
+    let ended = command().args(words(&by_input)).stdin(handle).output();
+    assert_eq!(ended.expect("the program starts").status.code(), Some(2));
+    assert_eq!(input.stream_position().expect("a place"), MOST as u64 + 2);
 }
 
 /// Whatever standard input is called: nothing is read from it for both, so that an empty password is never tried.
@@ -509,7 +519,7 @@ fn line_and_password_from_the_same_file() {
     }
     let redirected = |options: &str| {
         let mut program = command();
-        let input = std::fs::File::open(file.path()).expect("the file");
+        let input = File::open(file.path()).expect("the file");
         let ended = program.args(words(options)).stdin(input).output();
         String::from_utf8(ended.expect("the program starts").stderr).expect("text")
     };
