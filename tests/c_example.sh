@@ -95,6 +95,7 @@ login() { # WHAT STATUS DUE PASSWORD ARGUMENT..
 }
 line=$(cat examples/login_line.out)
 login 'the line' 0 "$line" "$password" "${numbers[@]}"
+printf '%s' "$password" | "$work/login" "${numbers[@]}" | cmp - examples/login_line.out
 grep -qF "$line" docs/LINKING.md || { echo 'docs/LINKING.md does not show the line'; exit 1; }
 printf '%s' "$line" >"$work/bare"
 login 'a login' 0 yes "$password" examples/login_line.out
@@ -112,6 +113,8 @@ login 'a line with two rows' 2 'refused 5: the number of rows has to be 3 to 163
 digits=$(printf '%0*d' $((1480 - ${#line})) 0)
 printf '%s\n' "${line/t=1/t=1$digits}" >"$work/line"
 login 'a line of 1480 bytes' 2 'refused 4: the time cost may be at most 255' "$password" "$work/line"
+printf '%s\n\n' "${line/t=1/t=1$digits}" >"$work/line"
+login 'a line of 1480 bytes and two newlines' 2 'the file is longer than any line' "$password" "$work/line"
 printf '%s\n' "${line/t=1/t=10$digits}" >"$work/line"
 login 'a line of 1481 bytes' 2 'the file is longer than any line' "$password" "$work/line"
 login 'a file without an end' 2 'the file is longer than any line' "$password" /dev/zero

@@ -240,6 +240,47 @@ fn the_first_refusal_is_told() {
     }
 }
 
+/// They are told by their form, though values and outputs are wrong too.
+#[test]
+fn texts_that_are_not_of_the_form() {
+    let good = "$lyra2$t=256,r=2,c=0$$";
+    assert_eq!(read(good.as_bytes(), [0, 0]), Err(Refusal::KeyLength));
+    for (from, to) in [
+        (good, ""),
+        ("$lyra2", "lyra2"),
+        ("$lyra2", "$lyra"),
+        ("lyra2", "LYRA2"),
+        ("t=", ""),
+        ("t=256", "t="),
+        ("r=2", "r="),
+        ("c=0", "c="),
+        ("t=256", "t=0256"),
+        ("r=2", "r=00"),
+        ("c=0", "c=-0"),
+        ("t=256", "t=2x6"),
+        (",r=2", ""),
+        ("r=2,c=0", "c=0,r=2"),
+        ("$$", "$"),
+        ("$$", "$$$"),
+        ("$$", "$$\n"),
+        ("$$", "$=$"),
+        ("$$", "$A$"),
+        ("$$", "$AB$"),
+        ("$$", "$AAB$"),
+        ("$$", "$AA A$"),
+        ("$$", "$$AAA="),
+        ("$$", "$$AAAAA"),
+        ("$$", "$$AA\u{e4}"),
+    ] {
+        let text = good.replacen(from, to, 1);
+        assert_ne!(text, good);
+        for room in [[0, 0], ROOM] {
+            let refused = read(text.as_bytes(), room);
+            assert_eq!(refused, Err(Refusal::LineForm), "{text:?}");
+        }
+    }
+}
+
 /// Of a good line every byte is left out, doubled, or made another one in turn: no other text is read as the same
 /// values, and what is read is written again as it was.
 #[test]
