@@ -31,7 +31,7 @@ pub enum Refusal {
     /// A text is not of the form of a login line.
     LineForm = 11,
     /// A lent output is too short for what is to be written there.
-    OutputLength = 12,
+    OutputTooShort = 12,
 }
 
 impl Refusal {
@@ -48,7 +48,7 @@ impl Refusal {
         Refusal::WalkRow,
         Refusal::SaltTooLong,
         Refusal::LineForm,
-        Refusal::OutputLength,
+        Refusal::OutputTooShort,
     ];
 
     /// The refusal's number.
@@ -93,8 +93,8 @@ impl fmt::Display for Refusal {
             Refusal::LineForm => {
                 return f.write_str("the line must be of the form $lyra2$t=T,r=R,c=C$SALT$KEY");
             }
-            Refusal::OutputLength => {
-                return f.write_str("an output must be long enough for what is written there");
+            Refusal::OutputTooShort => {
+                return f.write_str("the outputs must have room for what is written there");
             }
         };
         write!(f, "{what} {} to {}{unit}", limits.start(), limits.end())

@@ -174,7 +174,7 @@ fn refusals_are_numbered_from_1_to_12_and_each_has_its_sentence() {
         "3 to R-1",
         "at most 64 bytes",
         "$lyra2$t=T,r=R,c=C$SALT$KEY",
-        "long enough",
+        "have room",
     ];
     for (sentence, limit) in sentences.iter().zip(named) {
         assert!(sentence.contains(limit), "{sentence}");

@@ -167,14 +167,14 @@ fn outputs_of_the_named_sizes_are_accepted_and_shorter_ones_are_not() {
     let (salt, key) = ([1; SALT_MAX], [2; KEY_MAX]);
     let line = written(largest, &salt, &key, LINE_MAX).expect("the longest line");
     assert_eq!(line.len(), LINE_MAX);
-    let short = Err(Refusal::OutputLength);
+    let short = Err(Refusal::OutputTooShort);
     for room in [0, 1, LINE_MAX / 2, LINE_MAX - 1] {
         assert_eq!(written(largest, &salt, &key, room), short, "{room}");
     }
     let longer = written(largest, &salt, &key, LINE_MAX + 100);
     assert_eq!(longer.as_ref(), Ok(&line));
 
-    let short = Err(Refusal::OutputLength);
+    let short = Err(Refusal::OutputTooShort);
     for room in [
         [0, 0],
         [SALT_MAX - 1, KEY_MAX],
@@ -217,7 +217,7 @@ fn the_first_refusal_is_told() {
         (line(wrong[0], wrong[1], wrong[2], 8, 1), Refusal::TimeCost),
         (line("0", wrong[1], wrong[2], 8, 1), Refusal::Rows),
         (line("0", "3", wrong[2], 8, 1), Refusal::Columns),
-        (line("0", "3", "1", 8, 1), Refusal::OutputLength),
+        (line("0", "3", "1", 8, 1), Refusal::OutputTooShort),
     ] {
         assert_eq!(read(&text, none), Err(refusal));
     }
@@ -233,7 +233,7 @@ fn the_first_refusal_is_told() {
         (of(256, 2, 0), 8, 1, Refusal::TimeCost),
         (of(0, 2, 0), 8, 1, Refusal::Rows),
         (of(0, 3, 0), 8, 1, Refusal::Columns),
-        (of(0, 3, 1), 8, 1, Refusal::OutputLength),
+        (of(0, 3, 1), 8, 1, Refusal::OutputTooShort),
     ] {
         let answer = written(parameters, &vec![0; salt], &vec![0; key], 0);
         assert_eq!(answer, Err(refusal));
