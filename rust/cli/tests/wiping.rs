@@ -221,8 +221,7 @@ fn of_a_line_nothing_but_its_text_is_left() {
 
 #[test]
 fn of_a_login_nothing_is_left() {
-    let [line, password] =
-        [login_line().as_bytes(), PASSWORD].map(|bytes| TemporaryFile::holding(bytes));
+    let [line, password] = [login_line().as_bytes(), PASSWORD].map(TemporaryFile::holding);
     let by_line_file = format!("login --line-file {}", line.name());
     assert_eq!(left_by(&by_line_file, PASSWORD, line.name()), NOTHING);
     let by_password_file = format!("login --password-file {}", password.name());
