@@ -119,12 +119,12 @@ fn forbid_random_bytes(command: &mut Command) {
         Instruction(0x06, 0, 0, 0x7fff_0000),
     ];
     let forbid = || {
-        let filter = Filter(4, FILTER.as_ptr());
+        let filter = Filter(FILTER.len() as u16, FILTER.as_ptr());
         let place: *const c_void = (&raw const filter).cast();
-        let one: c_ulong = 1;
+        let [none, one, two]: [c_ulong; 3] = [0, 1, 2];
         // No new privileges, which a filter asks for, and then the filter.
-        // SAFETY: both calls read their arguments alone, and the filter lives until they return.
-        let is_set = unsafe { prctl(38, one, 0, 0, 0) == 0 && prctl(22, 2 as c_ulong, place) == 0 };
+        // SAFETY: both calls only read, and the filter lives until they return.
+        let is_set = unsafe { prctl(38, one, none, none, none) == 0 && prctl(22, two, place) == 0 };
         match is_set {
             true => Ok(()),
             false => Err(std::io::Error::last_os_error()),
