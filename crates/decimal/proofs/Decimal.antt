@@ -2,42 +2,19 @@
 use mathlib.Core.Path.{_≡_, ap, subst, refl, sym, _∙_}
 use mathlib.Core.Bool.{false, cond, _&&_, and-false}
 use Prim.Native.Nat.{ℕ, zero, suc, _+_, _-_, _/_, _%_, _^_, _≤_, _<_, _*_, min}
-use native.Mathlib.Nat.{pow-suc, one-le-pow, pow-le-pow-right, mul-le-mul-right}
+use native.Mathlib.Nat.{pow-suc, pow-succ', div-div-eq-div-mul, one-le-pow, pow-le-pow-right, mul-le-mul-right}
 use native.Mathlib.Decide.{decLe, decLt}
 use native.Mathlib.Omega.{arith}
 use native.Mathlib.Numerals.{add-one}
 use mathlib.Core.List.{List, [], _∷_, _++_}
 use lib.Dec.{leb}
-use lib.ListN.{length, getD, drop, drop-of-length-le, length-append}
-use lib.Seq.{drop-cons}
+use lib.ListN.{length, getD, drop, drop-of-length-le, length-append, List·getD-append}
+use lib.Seq.{drop-cons, getD-at}
 use borrow.Author.Tests.{lt-ltb, le-ltb, le-leb, lt-leb}
-use Rattle.io.specs.Digits.{digits, glyph, Fewest}
 use Rattle.lists.proofs.EveryLaws.{Passed, passed-more, failed}
-use Rattle.decimal.specs.Decimal.{decimalUpTo, isDigit, allDigits, numberFrom}
+use Rattle.decimal.specs.Decimal.{decimalUpTo, decimal, isDigit, allDigits, numberFrom}
 
--- ---- written: the digits that `io::decimal` makes are those of the definition
-
-glyph-is : (n : ℕ) → glyph (n % 10) ≡ 48 + n % 10
-glyph-is n = simp (lt-ltb (n % 10) 10 (omega arith))
-
--- the fewest digits of a tenth are one fewer
-tenth : (n j : ℕ) → Fewest 10 1 n (suc (suc j)) → Fewest 10 1 (n / 10) (suc j)
-tenth n zero h = (omega arith, omega (arith, h .1, pow-suc 10 1), λ l. absurd (omega arith))
-tenth n (suc j) h =
-    let big : 10 ^ suc (suc j) ≤ n = subst (λ (e : ℕ). 10 ^ e ≤ n) (omega arith) (h .2 (omega arith)) in
-    let small : 10 ^ suc j ≤ n / 10 = omega (arith, pow-suc 10 (suc j)) in
-    (omega arith, omega (arith, h .1, pow-suc 10 (suc (suc j))), λ l. subst (λ (e : ℕ). 10 ^ e ≤ n / 10) (omega arith) small)
-
-pub decimal-digits : (k n most : ℕ) → n < most → Fewest 10 1 n k → digits 10 k n ≡ decimalUpTo most n
-unfolding decimalUpTo
-decimal-digits k n zero l h = absurd (omega arith)
-decimal-digits zero n (suc most) l h = absurd (omega (arith, h .0))
-decimal-digits (suc zero) n (suc most) l h = simp (lt-ltb n 10 (omega (arith, h .1)), glyph-is n)
-decimal-digits (suc (suc j)) n (suc most) l h =
-    let big : 10 ≤ n =
-    omega (arith, h .2 (omega arith), pow-le-pow-right {n = 10} (omega arith) {i = 1} {j = suc (suc j) - 1} (omega arith)) in
-    simp (le-ltb n 10 big, glyph-is n)
-    (ap (λ (l : List ℕ). l ++ ((48 + n % 10) ∷ [])) (decimal-digits (suc j) (n / 10) most (omega arith) (tenth n j h)))
+-- ---- written
 
 -- as many digits as hold a number hold its decimal digits
 pub decimal-fits : (k most n : ℕ) → n < 10 ^ suc k → length (decimalUpTo most n) ≤ suc k
@@ -50,6 +27,67 @@ decimal-fits (suc k) (suc most) n h =
       | yes few ↦ simp (lt-ltb n 10 few) (omega arith)
       | no many ↦ simp (le-ltb n 10 (omega arith), length-append) (omega arith)
     ]
+
+-- and a number that fewer digits do not hold has as many
+decimal-long : (k most n : ℕ) → n < most → 10 ^ k ≤ n → suc k ≤ length (decimalUpTo most n)
+unfolding decimalUpTo
+decimal-long k zero n l h = absurd (omega arith)
+decimal-long zero (suc most) n l h = simp length-append (omega arith)
+decimal-long (suc k) (suc most) n l h =
+    let tenth-long = decimal-long k most (n / 10) (omega (arith, pow-suc 10 k, one-le-pow k 10 (omega arith))) (omega (arith, pow-suc 10 k)) in
+    simp (le-ltb n 10 (omega (arith, pow-suc 10 k, one-le-pow k 10 (omega arith))), length-append) (omega arith)
+
+pub decimal-length-is : (k n : ℕ) → n < 10 ^ suc k → 10 ^ k ≤ n → suc k ≡ length (decimalUpTo (suc n) n)
+decimal-length-is k n most least = omega (arith, decimal-fits k (suc n) n most, decimal-long k (suc n) n (omega arith) least)
+
+pub decimal-one : (n : ℕ) → n < 10 → 1 ≡ length (decimalUpTo (suc n) n)
+unfolding decimalUpTo
+decimal-one n h = simp (lt-ltb n 10 h)
+
+-- each digit by how many stand behind it
+
+digit-alone : (n i : ℕ) → i < 1 → 48 + n / 10 ^ (1 - 1 - i) % 10 ≡ getD ((48 + n % 10) ∷ []) i 0
+digit-alone n zero h = omega arith
+digit-alone n (suc i) h = absurd (omega arith)
+
+digit-behind : (n : ℕ) (t : List ℕ) (i : ℕ) → i < length t + 1 → (i < length t → 48 + n / 10 / 10 ^ (length t - 1 - i) % 10 ≡ getD t i 0)
+    → 48 + n / 10 ^ (length t + 1 - 1 - i) % 10 ≡ getD (t ++ ((48 + n % 10) ∷ [])) i 0
+digit-behind n t i h before =
+    elim (decLt i (length t)) [
+      | yes inside ↦
+          let place : length t + 1 - 1 - i ≡ suc (length t - 1 - i) = omega arith in
+          ap (λ (e : ℕ). 48 + n / 10 ^ e % 10) place ∙ ap (λ (p : ℕ). 48 + n / p % 10) (pow-succ' 10 (length t - 1 - i))
+          ∙ ap (λ (q : ℕ). 48 + q % 10) (sym (div-div-eq-div-mul n 10 (10 ^ (length t - 1 - i)))) ∙ before inside
+          ∙ sym (List·getD-append t ((48 + n % 10) ∷ []) 0 i inside)
+      | no last ↦
+          let place : length t + 1 - 1 - i ≡ 0 = omega arith in
+          let end : length t ≡ i = omega arith in
+          let whole : 48 + n / 10 ^ 0 % 10 ≡ 48 + n % 10 = omega arith in
+          ap (λ (e : ℕ). 48 + n / 10 ^ e % 10) place ∙ whole ∙ sym (getD-at t (48 + n % 10) [] 0 i end)
+    ]
+
+pub decimal-at : (most n i : ℕ) → n < most → i < length (decimalUpTo most n)
+    → 48 + n / 10 ^ (length (decimalUpTo most n) - 1 - i) % 10 ≡ getD (decimalUpTo most n) i 0
+unfolding decimalUpTo
+decimal-at zero n i l h = absurd (omega arith)
+decimal-at (suc most) n i l h =
+    elim (decLt n 10) [
+      | yes few ↦
+          let one : decimalUpTo (suc most) n ≡ (48 + n % 10) ∷ [] = simp (lt-ltb n 10 few) in
+          subst (λ (t : List ℕ). i < length t → 48 + n / 10 ^ (length t - 1 - i) % 10 ≡ getD t i 0) (sym one) (digit-alone n i) h
+      | no many ↦
+          let more : decimalUpTo (suc most) n ≡ decimalUpTo most (n / 10) ++ ((48 + n % 10) ∷ []) = simp (le-ltb n 10 (omega arith)) in
+          let size = length-append (decimalUpTo most (n / 10)) ((48 + n % 10) ∷ []) in
+          subst (λ (t : List ℕ). i < length t → 48 + n / 10 ^ (length t - 1 - i) % 10 ≡ getD t i 0) (sym more)
+          (λ inside.
+          ap (λ (k : ℕ). 48 + n / 10 ^ (k - 1 - i) % 10) size
+          ∙ digit-behind n (decimalUpTo most (n / 10)) i (omega arith) (λ before. decimal-at most (n / 10) i (omega arith) before)) h
+    ]
+
+-- the same by the code's count of digits
+pub digit-is : (n : ℕ) {k i d : ℕ} → length (decimal n) ≡ k → i < k → d ≡ 48 + n / 10 ^ (k - 1 - i) % 10 → d ≡ getD (decimal n) i 0
+digit-is n {k} {i} size inside e =
+    e ∙ ap (λ (m : ℕ). 48 + n / 10 ^ (m - 1 - i) % 10) (sym size) ∙ decimal-at (suc n) n i (omega arith) (omega arith)
 
 -- ---- read: each digit is one more place, a byte that is no digit ends the reading, and what is too large stays so
 

@@ -1,29 +1,66 @@
 // Numbers in decimal digits, written into a lent buffer and read.
 ghost use mathlib.Core.Path.{_≡_};
-ghost use Prim.Native.Nat.{_+_, _*_, _≤_, _<_, min};
+ghost use Prim.Native.Nat.{_+_, _*_, _/_, _%_, _^_, _≤_, _<_, min};
 ghost use lib.ListN.{length};
 ghost use Rattle.text.specs.Text.{Appended};
 ghost use Rattle.decimal.specs.Decimal.{decimal, numberOf, allDigits, isNumber};
 
-// Puts the digits of n at a place of the buffer, and answers where they end.
-pub fn append_decimal(out: &mut [u8], at: usize, n: usize) -> usize
-    requires { ⌜ at + length (decimal n) ≤ length (now out) ⌝ }
-    ensures { λ r. ⌜ Appended (now (out .entry)) (now (out .exit)) at (decimal n) r ⌝ }
-{
-    let mut digits = [0u8; 20];
-    let k = io::decimal(n as u64, &mut digits);
-    text::append(out, at, &digits[..k])
-}
-
 // How many digits n has.
 pub fn decimal_length(n: usize) -> usize
+    requires { ⌜ n < 100000 ⌝ }
     ensures { λ r. ⌜ r ≡ length (decimal n) ⌝ }
 {
-    let mut digits = [0u8; 20];
-    io::decimal(n as u64, &mut digits)
+    if n < 10 {
+        return 1;
+    }
+    if n < 100 {
+        return 2;
+    }
+    if n < 1000 {
+        return 3;
+    }
+    if n < 10000 {
+        return 4;
+    }
+    5
 }
 
-// Puts the digits of a number of at most five, where there is room for five.
+fn power_of_ten(place: usize) -> usize
+    requires { ⌜ place < 5 ⌝ }
+    ensures { λ r. ⌜ r ≡ 10 ^ place ⌝ }
+{
+    match place {
+        0 => 1,
+        1 => 10,
+        2 => 100,
+        3 => 1000,
+        _ => 10000,
+    }
+}
+
+// The digit with so many digits behind it.
+fn digit(n: usize, place: usize) -> u8
+    requires { ⌜ place < 5 ⌝ }
+    ensures { λ r. ⌜ r ≡ 48 + n / 10 ^ place % 10 ⌝ }
+{
+    (48 + n / power_of_ten(place) % 10) as u8
+}
+
+// Puts the digits of n at a place of the buffer, and answers where they end.
+pub fn append_decimal(out: &mut [u8], at: usize, n: usize) -> usize
+    requires { ⌜ (n < 100000) × (at + length (decimal n) ≤ length (now out)) ⌝ }
+    ensures { λ r. ⌜ Appended (now (out .entry)) (now (out .exit)) at (decimal n) r ⌝ }
+{
+    let k = decimal_length(n);
+    let mut i = 0;
+    while i < k {
+        out[at + i] = digit(n, k - 1 - i);
+        i += 1;
+    }
+    at + k
+}
+
+// The same where there is room for five digits.
 pub fn append_short(out: &mut [u8], at: usize, n: usize) -> usize
     requires { ⌜ (n < 100000) × (at + 5 ≤ length (now out)) ⌝ }
     ensures { λ r. ⌜ Appended (now (out .entry)) (now (out .exit)) at (decimal n) r ⌝ }

@@ -16,6 +16,7 @@ use Rattle.base64.specs.Base64.{encode}
 use Rattle.line_form.specs.Line.{Values, startMark, rowsMark, columnsMark, textMark, joined, lineOf, lengthBy}
 use Rattle.line_form.specs.Contracts.{valueChecks, writeChecks, lineLength, noLength, writeNumber, Written}
 use Rattle.line_form.specs.declared.LineLength.{LineLength}
+use Rattle.line_writing.specs.Values.{WithinLimits}
 use Rattle.line_form.proofs.Lengths.{line-length, line-most}
 
 regroup : (a t b r d c e s k : List ℕ) → a ++ t ++ (b ++ r) ++ (d ++ c) ++ (e ++ s) ++ (e ++ k) ≡ a ++ (t ++ (b ++ (r ++ (d ++ (c ++ (e ++ (s ++ (e ++ k))))))))
@@ -32,12 +33,19 @@ regrouped v =
 
 module _ (v : Values) {n : ℕ} (is : n ≡ first (valueChecks v)) where
   -- what is known once the values are accepted
-  pub values-fit : n ≡ 0 → (length (v .salt) ≤ 64) × (length (v .key) ≤ 1024) × (lengthBy (v .parameters) (length (v .salt)) (length (v .key)) ≤ 1480)
+  pub values-fit : n ≡ 0 → WithinLimits (v .parameters) (length (v .salt)) (length (v .key))
   unfolding storedChecks
   values-fit z =
       let e = sym is ∙ z in
       let bounds = accepted (valueChecks v) (omega arith) e in
-      (omega arith, omega arith, omega (arith, line-length v, line-most v e))
+      record {
+        time-most = omega arith;
+        rows-most = omega arith;
+        columns-most = omega arith;
+        salt-most = omega arith;
+        key-most = omega arith;
+        line-most = omega (arith, line-length v, line-most v e);
+      }
 
   module _ (line : List ℕ) where
     abbrev roomCheck : Check

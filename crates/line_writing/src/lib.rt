@@ -9,7 +9,7 @@ use refusals::stored_refusal;
 use settings::Parameters;
 use text::append;
 ghost use mathlib.Core.Path.{_≡_};
-ghost use Prim.Native.Nat.{_+_, _≤_};
+ghost use Prim.Native.Nat.{_+_, _≤_, _<_};
 ghost use mathlib.Core.List.{_++_};
 ghost use lib.ListN.{length};
 ghost use Rattle.text.specs.Text.{Appended};
@@ -17,14 +17,14 @@ ghost use Rattle.decimal.specs.Decimal.{decimal};
 ghost use Rattle.base64.specs.Base64.{encodedLength, encode};
 ghost use Rattle.line_form.specs.Line.{textMark, lineOf, lengthBy};
 ghost use Rattle.line_form.specs.Contracts.{Written, lineLength, noLength};
-ghost use Rattle.line_writing.specs.Values.{values};
+ghost use Rattle.line_writing.specs.Values.{values, WithinLimits};
 
 // The bytes of all marks together.
 const MARKS: usize = 17;
 
 // Puts a mark and a number behind it, and answers where they end.
 fn append_number(out: &mut [u8], at: usize, mark: &[u8], n: usize) -> usize
-    requires { ⌜ at + (length (now mark) + length (decimal n)) ≤ length (now out) ⌝ }
+    requires { ⌜ (n < 100000) × (at + (length (now mark) + length (decimal n)) ≤ length (now out)) ⌝ }
     ensures { λ r. ⌜ Appended (now (out .entry)) (now (out .exit)) at (now (mark .entry) ++ decimal n) r ⌝ }
 {
     let from = append(out, at, mark);
@@ -41,7 +41,7 @@ fn append_text(out: &mut [u8], at: usize, bytes: &[u8]) -> usize
 }
 
 fn line_length(p: Parameters, salt: usize, key: usize) -> usize
-    requires { ⌜ (salt ≤ 64) × (key ≤ 1024) × (lengthBy p salt key ≤ 1480) ⌝ }
+    requires { ⌜ WithinLimits p salt key ⌝ }
     ensures { λ r. ⌜ r ≡ lengthBy p salt key ⌝ }
 {
     let numbers = decimal_length(p.time) + decimal_length(p.rows) + decimal_length(p.columns);
@@ -50,7 +50,7 @@ fn line_length(p: Parameters, salt: usize, key: usize) -> usize
 
 // Puts the whole line at the start of an output that has room for it.
 fn put_line(p: Parameters, salt: &[u8], key: &[u8], out: &mut [u8]) -> usize
-    requires { ⌜ (length (now salt) ≤ 64) × (length (now key) ≤ 1024) × (lengthBy p (length (now salt)) (length (now key)) ≤ length (now out)) ⌝ }
+    requires { ⌜ WithinLimits p (length (now salt)) (length (now key)) × (lengthBy p (length (now salt)) (length (now key)) ≤ length (now out)) ⌝ }
     ensures { λ r. ⌜ Appended (now (out .entry)) (now (out .exit)) 0 (lineOf (values p (now (salt .entry)) (now (key .entry)))) r ⌝ }
 {
     let time = append_number(out, 0, b"$lyra2$t=", p.time);

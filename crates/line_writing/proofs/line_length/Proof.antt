@@ -8,5 +8,5 @@ pub line-length-spec : {M : Type 1} → statement M
 unfolding lengthBy
 line-length-spec =
     tie.close
-    (tie.spec (λ c κs. tt) (λ c κs. tt) (omega arith) (λ c κs. tt) (omega arith) (omega arith) (omega arith) (omega arith) (omega arith) (omega arith)
+    (tie.spec (omega arith) (omega arith) (omega arith) (omega arith) (omega arith) (omega arith) (omega arith) (omega arith) (omega arith) (omega arith)
     (omega arith))

@@ -30,7 +30,7 @@ write-line-spec =
     let checked = long .before .before in
     let a = checked .before .before .before .before .args in
     let fit = values-fit (values (a .p) (now (a .salt)) (now (a .key))) (checked .stored-refusal .ensures) (long .before .if1 .left) in
-    (fit .0, fit .1, omega arith))
+    (fit, omega arith))
     (omega arith)
     (λ c.
     let long = c .before .before .before .before .before in
