@@ -12,6 +12,8 @@
 //! | `visits` | 22 to 32 |
 //! | `derivation` | 33 to 36, and the operations open to callers |
 //!
+//! `line` reads and writes the login lines of request #105, which the algorithm does not know.
+//!
 //! The caller lends every buffer. A refused call leaves all of them as they were. An accepted plain derivation
 //! or check ends with zeros in the used matrix (request #104); only the recorded derivation keeps its end matrix.
 //!
@@ -30,9 +32,11 @@
 #![forbid(unsafe_code)]
 #![warn(missing_docs)]
 
+pub mod base64;
 pub mod cost;
 pub mod derivation;
 pub mod input;
+pub mod line;
 mod matrix;
 pub mod refusal;
 mod setup;
@@ -44,6 +48,7 @@ pub mod walk;
 pub use cost::cost;
 pub use derivation::{check, derive, derive_recorded, Checked, Inputs, Recorded};
 pub use input::Parameters;
+pub use line::{line_read, line_write, LineParts, LineValues};
 pub use refusal::Refusal;
 pub use sponge::Counts;
 pub use walk::{walk, walk_program};

@@ -63,6 +63,10 @@ refusals! {
     WalkRow = 9, "row0 must be 3 to R-1";
     /// The salt is too long.
     SaltTooLong = 10, "the salt must be at most 64 bytes long";
+    /// The login line is not of its form.
+    LineForm = 11, "the line must be of the form $lyra2$t=T,r=R,c=C$SALT$KEY";
+    /// A lent output is too short for what would be put there.
+    OutputTooShort = 12, "the lent outputs must have room for what is put there";
 }
 
 impl Refusal {
@@ -126,6 +130,29 @@ pub const COST_CHECKS: &[Refusal] = &[
 /// The checks of the walk question.
 pub const WALK_CHECKS: &[Refusal] = &[Refusal::Rows, Refusal::WalkRow];
 
+/// The checks of reading a login line: the form comes before every value, and the outputs after them.
+pub const LINE_READ_CHECKS: &[Refusal] = &[
+    Refusal::LineForm,
+    Refusal::KeyLength,
+    Refusal::SaltTooShort,
+    Refusal::SaltTooLong,
+    Refusal::TimeCost,
+    Refusal::Rows,
+    Refusal::Columns,
+    Refusal::OutputTooShort,
+];
+
+/// The checks of writing a login line.
+pub const LINE_WRITE_CHECKS: &[Refusal] = &[
+    Refusal::KeyLength,
+    Refusal::SaltTooShort,
+    Refusal::SaltTooLong,
+    Refusal::TimeCost,
+    Refusal::Rows,
+    Refusal::Columns,
+    Refusal::OutputTooShort,
+];
+
 /// Refuses unless the condition holds.
 fn demand(holds: bool, refusal: Refusal) -> Result<(), Refusal> {
     if holds {
@@ -160,6 +187,11 @@ pub fn check_record(given: &Parameters, matrix: &[u64], record: &[u64]) -> Resul
     check_matrix(given, matrix)?;
     let enough = record.len() as u64 >= given.record_words();
     demand(enough, Refusal::RecordWords)
+}
+
+/// The last check of reading and of writing a login line: whether each output has enough bytes.
+pub fn check_outputs(enough: bool) -> Result<(), Refusal> {
+    demand(enough, Refusal::OutputTooShort)
 }
 
 /// The checks of the walk question: R, then the row asked about.

@@ -1,6 +1,9 @@
 //! The refusals: each limit from both sides, the order of the checks, and buffers left as they were.
 
-use lyra2_reference::refusal::{Refusal, COST_CHECKS, PLAIN_CHECKS, RECORDED_CHECKS, WALK_CHECKS};
+use lyra2_reference::refusal::{
+    Refusal, COST_CHECKS, LINE_READ_CHECKS, LINE_WRITE_CHECKS, PLAIN_CHECKS, RECORDED_CHECKS,
+    WALK_CHECKS,
+};
 use lyra2_reference::{check, cost, derive, derive_recorded, walk, Inputs, Parameters};
 use std::collections::BTreeSet;
 
@@ -196,7 +199,9 @@ fn make_hold(call: &mut Call, check: Refusal, high: bool) {
         Refusal::Columns => call.c = pick(0, u64::MAX),
         Refusal::MatrixWords => call.matrix_words = pick(0, 35) as usize,
         Refusal::RecordWords => call.record_words = pick(0, 11) as usize,
-        Refusal::WalkRow => panic!("none of the four operations has this check"),
+        Refusal::WalkRow | Refusal::LineForm | Refusal::OutputTooShort => {
+            panic!("none of the four operations has this check")
+        }
     }
 }
 
@@ -333,14 +338,22 @@ fn orders_of_the_checks() {
 
 #[test]
 fn every_refusal_is_a_check_of_some_operation() {
-    let orders = [RECORDED_CHECKS, PLAIN_CHECKS, COST_CHECKS, WALK_CHECKS];
+    let orders = [
+        RECORDED_CHECKS,
+        PLAIN_CHECKS,
+        COST_CHECKS,
+        WALK_CHECKS,
+        LINE_READ_CHECKS,
+        LINE_WRITE_CHECKS,
+    ];
     let made: BTreeSet<_> = numbers(&orders.concat()).into_iter().collect();
     assert_eq!(made, numbers(Refusal::ALL).into_iter().collect());
 }
 
 #[test]
 fn numbers_and_sentences() {
-    assert_eq!(numbers(Refusal::ALL), [1, 2, 3, 4, 5, 6, 7, 8, 9, 10]);
+    let all: Vec<u8> = (1..=12).collect();
+    assert_eq!(numbers(Refusal::ALL), all);
     let mut sentences = BTreeSet::new();
     for refusal in Refusal::ALL {
         let number = u64::from(refusal.number());
@@ -350,5 +363,5 @@ fn numbers_and_sentences() {
         assert!(sentences.insert(refusal.to_string()), "{refusal}");
     }
     assert_eq!(Refusal::from_number(0), None);
-    assert_eq!(Refusal::from_number(11), None);
+    assert_eq!(Refusal::from_number(13), None);
 }

@@ -194,7 +194,7 @@ fn holds(check: Refusal, question: &Question) -> bool {
         Refusal::Columns => given.c == 0 || given.c > 256,
         Refusal::MatrixWords => matrix_words < given.matrix_words(),
         Refusal::RecordWords => record_words < given.record_words(),
-        Refusal::WalkRow => false,
+        Refusal::WalkRow | Refusal::LineForm | Refusal::OutputTooShort => false,
     }
 }
 
