@@ -1,10 +1,13 @@
-//! Faulty programs, made on purpose: the run of the vectors file has to notice every fault.
+//! Faulty programs, made on purpose: the run of the vectors file has to notice every fault. Those of the login lines stand
+//! in a file of their own.
 
 mod common;
 
 use lyra2_reference::refusal::{check_matrix, check_parameters, check_record, PLAIN_CHECKS};
 use lyra2_reference::vectors::{run, write, Answer, Case, Coverage, Question, Reference, Subject};
-use lyra2_reference::{Checked, Counts, Inputs, Parameters, Recorded, Refusal};
+use lyra2_reference::{
+    Checked, Counts, Inputs, LineParts, LineValues, Parameters, Recorded, Refusal,
+};
 
 #[derive(Clone, Copy, Debug, PartialEq, Eq)]
 enum Fault {
@@ -148,6 +151,19 @@ impl Subject for Faulty {
         }
         Some(output)
     }
+
+    fn line_read(
+        &self,
+        line: &[u8],
+        salt: &mut [u8],
+        key: &mut [u8],
+    ) -> Option<Result<LineValues, Refusal>> {
+        Reference.line_read(line, salt, key)
+    }
+
+    fn line_write(&self, parts: &LineParts, line: &mut [u8]) -> Option<Result<u64, Refusal>> {
+        Reference.line_write(parts, line)
+    }
 }
 
 /// The cases with buffers small enough to be asked over and over.
@@ -202,7 +218,7 @@ fn no_fault_is_noticed_where_there_is_none() {
     }
 }
 
-/// A faulty program without the recorded derivation and the walk program.
+/// A faulty program without the recorded derivation, the walk program and the login lines.
 struct Partial(Faulty);
 
 impl Subject for Partial {
@@ -256,6 +272,7 @@ fn a_partial_program_is_held_against_what_it_has() {
     for case in small_cases() {
         let expected = match (&case.question, &case.answer) {
             (Question::WalkProgram { .. }, _) => Coverage::Nothing,
+            (Question::LineRead { .. } | Question::LineWrite { .. }, _) => Coverage::Nothing,
             (_, Answer::Refused(Refusal::RecordWords)) => Coverage::Nothing,
             (Question::DeriveRecorded { .. }, _) => Coverage::SharedPart,
             _ => Coverage::Whole,

@@ -22,6 +22,13 @@ const DERIVED: &str = "case=1 op=derive key_len=32 \
     key=01ff1f6b8a2f3c033f24023a1d9f6f9677f2a0b272bfdc823d4d637acfbaddab \
     full=3 reduced=6 rounds=42 matrix_sum=66e368127e9e89a5";
 
+const LINE_READ: &str = "case=1 op=line_read \
+    line=246c7972613224743d312c723d332c633d31246332467364484e68624851245a67 salt_room=8 key_room=1 \
+    refusal=0 T=1 R=3 C=1 salt=73616c7473616c74 key=66";
+const LINE_WRITE: &str =
+    "case=1 op=line_write T=1 R=3 C=1 salt=73616c7473616c74 key=66 line_room=33 \
+    refusal=0 line=246c7972613224743d312c723d332c633d31246332467364484e68624851245a67";
+
 /// The problem that reading a line gives, which must be laid to that line.
 fn problem(line: &str) -> String {
     let file = format!("# a comment\n\n{line}\n");
@@ -38,7 +45,9 @@ fn replaced(line: &str, part: &str, by: &str) -> String {
 
 #[test]
 fn the_lines_that_the_others_start_from_are_good() {
-    for line in [WALK, COST, REFUSED, CHECK, PROGRAM, DERIVED] {
+    for line in [
+        WALK, COST, REFUSED, CHECK, PROGRAM, DERIVED, LINE_READ, LINE_WRITE,
+    ] {
         assert!(read(format!("{line}\n").as_bytes()).is_ok(), "{line}");
     }
     assert_eq!(read(b""), Ok(Vec::new()));
@@ -57,6 +66,22 @@ fn missing_fields() {
     );
     assert_eq!(replaced(CHECK, " answer=no", ""), "field answer: missing");
     assert_eq!(replaced(PROGRAM, " output=", ""), "field output: missing");
+    for (line, fields) in [
+        (
+            LINE_READ,
+            &["salt_room=8", "key_room=1", "T=1", "key=66"][..],
+        ),
+        (
+            LINE_WRITE,
+            &["C=1", "salt=73616c7473616c74", "line_room=33"],
+        ),
+    ] {
+        for field in fields {
+            let (name, _) = field.split_once('=').unwrap();
+            let expected = format!("field {name}: missing");
+            assert_eq!(replaced(line, &format!(" {field}"), ""), expected);
+        }
+    }
 }
 
 #[test]
@@ -99,6 +124,15 @@ fn bad_numbers() {
     );
     let key = replaced(REFUSED, "key_len=0", "key_len=1048577");
     assert_eq!(key, "field key_len: 1048577 is out of range, 0 to 1048576");
+    for (line, name, room) in [
+        (LINE_READ, "salt_room", 8),
+        (LINE_READ, "key_room", 1),
+        (LINE_WRITE, "line_room", 33),
+    ] {
+        let what = replaced(line, &format!("{name}={room}"), &format!("{name}=1048577"));
+        let expected = format!("field {name}: 1048577 is out of range, 0 to 1048576");
+        assert_eq!(what, expected);
+    }
 }
 
 #[test]
@@ -251,6 +285,18 @@ fn program_says_where_a_file_is_bad() {
     let expected =
         "1: case 1: field matrix_sum: 0000000000000000 is due, 66e368127e9e89a5 was found";
     assert_eq!(sum, expected);
+    let read = LINE_READ.replace("key=66", "key=67");
+    let expected = "1: case 1: field key: 67 is due, 66 was found";
+    assert_eq!(complaint_about("read.txt", &format!("{read}\n")), expected);
+    let room = LINE_READ.replace("salt_room=8", "salt_room=7");
+    let expected = "1: case 1: field refusal: 0 is due, 12 was found";
+    assert_eq!(complaint_about("room.txt", &format!("{room}\n")), expected);
+    let written = LINE_WRITE.replace("245a67", "245a68");
+    let expected = "1: case 1: field line: from digit 65 on, 8 is due, 7 was found";
+    assert_eq!(
+        complaint_about("written.txt", &format!("{written}\n")),
+        expected
+    );
     // The sum that the line had before request #104, that of the end matrix.
     let kept = DERIVED.replace("66e368127e9e89a5", "0f3c14690553fc4a");
     let expected =
@@ -261,13 +307,17 @@ fn program_says_where_a_file_is_bad() {
 #[test]
 fn program_says_that_a_file_holds() {
     let file = place("good.txt");
-    let derived = DERIVED.replace("case=1", "case=2");
-    std::fs::write(&file, format!("{WALK}\n{derived}\n")).unwrap();
+    let mut lines = String::new();
+    for (number, line) in (1..).zip([WALK, DERIVED, LINE_READ, LINE_WRITE]) {
+        lines += &line.replace("case=1", &format!("case={number}"));
+        lines.push('\n');
+    }
+    std::fs::write(&file, lines).unwrap();
     let output = vectors(&["check", file.to_str().unwrap()]);
     assert!(output.status.success());
     let text = String::from_utf8(output.stdout).unwrap();
     assert!(
-        text.ends_with(": all hold (cases: 2, refusals: 0)\n"),
+        text.ends_with(": all hold (cases: 4, refusals: 0)\n"),
         "{text}"
     );
 }

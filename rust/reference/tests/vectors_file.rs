@@ -143,18 +143,20 @@ fn every_operation_has_each_of_its_refusals() {
             found.entry(op).or_default().insert(refusal.number());
         }
     }
-    let expected: [(&str, BTreeSet<u8>); 5] = [
+    let expected: [(&str, BTreeSet<u8>); 7] = [
         ("derive_recorded", [1, 2, 3, 4, 5, 6, 7, 8, 10].into()),
         ("derive", [1, 2, 3, 4, 5, 6, 7, 10].into()),
         ("check", [1, 2, 3, 4, 5, 6, 7, 10].into()),
         ("cost", [1, 2, 3, 4, 5, 6, 10].into()),
         ("walk", [5, 9].into()),
+        ("line_read", [1, 3, 4, 5, 6, 10, 11, 12].into()),
+        ("line_write", [1, 3, 4, 5, 6, 10, 12].into()),
     ];
     assert_eq!(found, expected.into());
 }
 
 /// The numbers of a question and the words it lends as matrix and record, the most where it lends none. The
-/// walk has other numbers.
+/// walk has other numbers, and the login lines have tests of their own.
 fn numbers_and_words(question: &Question) -> Option<(Parameters, u64, u64)> {
     Some(match question {
         Question::DeriveRecorded {
@@ -175,7 +177,10 @@ fn numbers_and_words(question: &Question) -> Option<(Parameters, u64, u64)> {
             (given.parameters(key_len), given.matrix_words, u64::MAX)
         }
         Question::Cost(given) => (*given, u64::MAX, u64::MAX),
-        Question::Walk { .. } | Question::WalkProgram { .. } => return None,
+        Question::Walk { .. }
+        | Question::WalkProgram { .. }
+        | Question::LineRead { .. }
+        | Question::LineWrite { .. } => return None,
     })
 }
 
@@ -198,7 +203,7 @@ fn holds(check: Refusal, question: &Question) -> bool {
     }
 }
 
-/// The cases of the operations other than the walk, by operation.
+/// The cases of the operations other than the walk and the login lines, by operation.
 fn cases_by_operation() -> BTreeMap<&'static str, Vec<Case>> {
     let mut cases_of: BTreeMap<_, Vec<Case>> = BTreeMap::new();
     for (_, case) in common::cases() {

@@ -1,7 +1,10 @@
 //! A case of the vectors file: a question put to an operation, and the answer to it.
 
 use crate::input::Parameters;
-use crate::refusal::{Refusal, COST_CHECKS, PLAIN_CHECKS, RECORDED_CHECKS, WALK_CHECKS};
+use crate::refusal::{
+    Refusal, COST_CHECKS, LINE_READ_CHECKS, LINE_WRITE_CHECKS, PLAIN_CHECKS, RECORDED_CHECKS,
+    WALK_CHECKS,
+};
 use crate::sponge::{Counts, State};
 
 /// A run of bytes, given one by one or as a number of zeros.
@@ -62,6 +65,21 @@ impl Given {
     }
 }
 
+/// The values of a login line.
+#[derive(Clone, Debug, PartialEq, Eq)]
+pub struct LoginValues {
+    /// The time cost T.
+    pub t: u64,
+    /// The number of rows R.
+    pub r: u64,
+    /// The number of columns C.
+    pub c: u64,
+    /// The salt.
+    pub salt: Bytes,
+    /// The key.
+    pub key: Bytes,
+}
+
 /// An operation and what it is given.
 #[derive(Clone, Debug, PartialEq, Eq)]
 pub enum Question {
@@ -104,6 +122,22 @@ pub enum Question {
         /// Its whole standard input.
         input: Vec<u8>,
     },
+    /// The reading of a login line.
+    LineRead {
+        /// The line.
+        line: Vec<u8>,
+        /// Bytes of the lent output for the salt.
+        salt_room: u64,
+        /// Bytes of the lent output for the key.
+        key_room: u64,
+    },
+    /// The writing of a login line.
+    LineWrite {
+        /// What the line is written from.
+        values: LoginValues,
+        /// Bytes of the lent output.
+        line_room: u64,
+    },
 }
 
 impl Question {
@@ -116,6 +150,8 @@ impl Question {
             Question::Cost(_) => COST_CHECKS,
             Question::Walk { .. } => WALK_CHECKS,
             Question::WalkProgram { .. } => &[],
+            Question::LineRead { .. } => LINE_READ_CHECKS,
+            Question::LineWrite { .. } => LINE_WRITE_CHECKS,
         }
     }
 }
@@ -167,6 +203,13 @@ pub enum Answer {
     },
     /// Of the walk program.
     Output(Output),
+    /// Of the reading of a login line; salt and key are the written bytes of the outputs.
+    LineRead(LoginValues),
+    /// Of the writing of a login line.
+    LineWritten {
+        /// The written bytes of the output.
+        line: Vec<u8>,
+    },
 }
 
 /// The walk program's standard output.

@@ -9,14 +9,16 @@ pub mod case;
 pub mod checksum;
 pub mod fields;
 mod lent;
+mod lines;
 pub mod random;
+pub mod random_line;
 pub mod read;
 mod refused;
 pub mod run;
 pub mod subject;
 pub mod write;
 
-pub use case::{Answer, Bytes, Case, Given, Question};
+pub use case::{Answer, Bytes, Case, Given, LoginValues, Question};
 pub use read::{read, Problem};
 pub use run::Coverage;
 pub use subject::{Reference, Subject};
@@ -33,6 +35,8 @@ pub fn chosen_questions() -> Vec<Question> {
         refused::of_salts(),
         accepted::wiped(),
         refused::with_room_to_wipe(),
+        lines::read(),
+        lines::written(),
     ]
     .concat()
 }

@@ -36,13 +36,13 @@ impl Random {
         (0..count).map(|_| self.word() as u8).collect()
     }
 
-    /// One of some numbers.
-    fn one_of(&mut self, numbers: &[u64]) -> u64 {
-        numbers[(self.word() % numbers.len() as u64) as usize]
+    /// One of some values.
+    pub(super) fn one_of<T: Copy>(&mut self, values: &[T]) -> T {
+        values[(self.word() % values.len() as u64) as usize]
     }
 
     /// A number from low to high, seldom one up to the highest that is accepted.
-    fn mostly(&mut self, low: u64, high: u64, highest: u64, seldom: u64) -> u64 {
+    pub(super) fn mostly(&mut self, low: u64, high: u64, highest: u64, seldom: u64) -> u64 {
         let high = if self.once_in(seldom) { highest } else { high };
         self.between(low, high)
     }

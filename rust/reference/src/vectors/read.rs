@@ -1,6 +1,6 @@
 //! Reading a vectors file: every line is a case, a comment or empty.
 
-use super::case::{Answer, Case, Given, Output, Question, LISTED_OUTPUT_BYTES};
+use super::case::{Answer, Bytes, Case, Given, LoginValues, Output, Question, LISTED_OUTPUT_BYTES};
 use super::fields::{unknown_value, Fields, Trouble};
 use crate::input::Parameters;
 use crate::refusal::Refusal;
@@ -9,7 +9,7 @@ use std::fmt;
 
 /// The most words a lent buffer of the file may have; the reader has to hold them.
 pub const MOST_WORDS: u64 = 1 << 26;
-/// The longest key buffer of the file.
+/// The longest key buffer of the file, and the longest output of a login line or of its parts.
 pub const MOST_KEY_BYTES: u64 = 1 << 20;
 
 /// What is wrong with a vectors file, and where.
@@ -124,6 +124,21 @@ fn read_question(fields: &mut Fields) -> Result<Question, Trouble> {
         "walk_program" => Question::WalkProgram {
             input: fields.hex("input")?,
         },
+        "line_read" => Question::LineRead {
+            line: fields.hex("line")?,
+            salt_room: fields.number("salt_room", 0..=MOST_KEY_BYTES)?,
+            key_room: fields.number("key_room", 0..=MOST_KEY_BYTES)?,
+        },
+        "line_write" => Question::LineWrite {
+            values: LoginValues {
+                t: fields.any_number("T")?,
+                r: fields.any_number("R")?,
+                c: fields.any_number("C")?,
+                salt: fields.bytes("salt", "salt_zeros")?,
+                key: fields.bytes("key", "key_zeros")?,
+            },
+            line_room: fields.number("line_room", 0..=MOST_KEY_BYTES)?,
+        },
         other => return Err(unknown_value("op", other)),
     })
 }
@@ -162,6 +177,16 @@ fn read_answer(fields: &mut Fields, question: &Question) -> Result<Answer, Troub
         Question::Cost(_) => Answer::Cost(read_counts(fields)?),
         Question::Walk { .. } | Question::WalkProgram { .. } => Answer::Walk {
             row1: fields.any_number("row1")?,
+        },
+        Question::LineRead { .. } => Answer::LineRead(LoginValues {
+            t: fields.any_number("T")?,
+            r: fields.any_number("R")?,
+            c: fields.any_number("C")?,
+            salt: fields.hex("salt").map(Bytes::Listed)?,
+            key: fields.hex("key").map(Bytes::Listed)?,
+        }),
+        Question::LineWrite { .. } => Answer::LineWritten {
+            line: fields.hex("line")?,
         },
     })
 }

@@ -492,7 +492,7 @@ pub fn with_room_to_wipe() -> Vec<Question> {
 
 /// The questions without those that stand earlier: a long password has no other side, and two sets of
 /// conditions may come to the same.
-fn without_repeats(questions: Vec<Question>) -> Vec<Question> {
+pub(super) fn without_repeats(questions: Vec<Question>) -> Vec<Question> {
     let mut once = Vec::new();
     for question in questions {
         if !once.contains(&question) {

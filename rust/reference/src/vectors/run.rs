@@ -1,11 +1,11 @@
 //! Putting questions to a program, and comparing its answers with a file's and with one another.
 
-use super::case::{Answer, Bytes, Case, Given, Output, Question, LISTED_OUTPUT_BYTES};
+use super::case::{Answer, Bytes, Case, Given, LoginValues, Output, Question, LISTED_OUTPUT_BYTES};
 use super::fields::short;
 use super::subject::Subject;
 use super::{checksum, lent, write};
 use crate::refusal::Refusal;
-use crate::{Counts, Inputs};
+use crate::{Counts, Inputs, LineParts};
 
 /// How much of a case a program could be held against.
 #[derive(Clone, Copy, Debug, PartialEq, Eq)]
@@ -43,6 +43,14 @@ fn ask_if_offered(subject: &impl Subject, question: &Question) -> Result<Option<
             .walk(*r, *row0)
             .map_or_else(Answer::Refused, |row1| Answer::Walk { row1 }),
         Question::WalkProgram { input } => return Ok(subject.walk_program(input).map(output)),
+        Question::LineRead {
+            line,
+            salt_room,
+            key_room,
+        } => return ask_line_read(subject, line, *salt_room, *key_room),
+        Question::LineWrite { values, line_room } => {
+            return ask_line_write(subject, values, *line_room)
+        }
     };
     Ok(Some(answer))
 }
@@ -61,7 +69,7 @@ fn ask_recorded(
     record_words: u64,
     in_full: bool,
 ) -> Result<Option<Answer>, String> {
-    let mut key = lent::key(key_len);
+    let mut key = lent::bytes(key_len);
     let mut matrix = lent::words(given.matrix_words);
     let mut record = lent::words(record_words);
     let answer = with_inputs(given, |inputs| {
@@ -71,7 +79,7 @@ fn ask_recorded(
         None => return Ok(None),
         Some(Ok(recorded)) => recorded,
         Some(Err(refusal)) => {
-            lent::key_is_kept(&key)?;
+            lent::bytes_are_kept("key buffer", &key, 0)?;
             lent::words_are_kept("matrix", &matrix, 0)?;
             lent::words_are_kept("record", &record, 0)?;
             return Ok(Some(Answer::Refused(refusal)));
@@ -91,7 +99,7 @@ fn ask_recorded(
 }
 
 fn ask_plain(subject: &impl Subject, given: &Given, key_len: u64) -> Result<Answer, String> {
-    let mut key = lent::key(key_len);
+    let mut key = lent::bytes(key_len);
     let mut matrix = lent::words(given.matrix_words);
     let answer = with_inputs(given, |inputs| {
         subject.derive(inputs, &mut key, &mut matrix)
@@ -103,7 +111,7 @@ fn ask_plain(subject: &impl Subject, given: &Given, key_len: u64) -> Result<Answ
             matrix_sum: matrix_sum(given, &matrix)?,
         }),
         Err(refusal) => {
-            lent::key_is_kept(&key)?;
+            lent::bytes_are_kept("key buffer", &key, 0)?;
             lent::words_are_kept("matrix", &matrix, 0)?;
             Ok(Answer::Refused(refusal))
         }
@@ -141,6 +149,60 @@ fn with_inputs<A>(given: &Given, call: impl FnOnce(&Inputs) -> A) -> A {
 fn matrix_sum(given: &Given, matrix: &[u64]) -> Result<u64, String> {
     let words = given.parameters(0).matrix_words();
     lent::used("matrix", matrix, words).map(checksum::of_words)
+}
+
+fn ask_line_read(
+    subject: &impl Subject,
+    line: &[u8],
+    salt_room: u64,
+    key_room: u64,
+) -> Result<Option<Answer>, String> {
+    let mut salt = lent::bytes(salt_room);
+    let mut key = lent::bytes(key_room);
+    let values = match subject.line_read(line, &mut salt, &mut key) {
+        None => return Ok(None),
+        Some(Ok(values)) => values,
+        Some(Err(refusal)) => {
+            lent::bytes_are_kept("salt's output", &salt, 0)?;
+            lent::bytes_are_kept("key's output", &key, 0)?;
+            return Ok(Some(Answer::Refused(refusal)));
+        }
+    };
+    let salt = lent::written("salt's output", &salt, values.salt_len)?;
+    let key = lent::written("key's output", &key, values.key_len)?;
+    Ok(Some(Answer::LineRead(LoginValues {
+        t: values.t,
+        r: values.r,
+        c: values.c,
+        salt: Bytes::Listed(salt.to_vec()),
+        key: Bytes::Listed(key.to_vec()),
+    })))
+}
+
+fn ask_line_write(
+    subject: &impl Subject,
+    values: &LoginValues,
+    line_room: u64,
+) -> Result<Option<Answer>, String> {
+    let mut line = lent::bytes(line_room);
+    let parts = LineParts {
+        t: values.t,
+        r: values.r,
+        c: values.c,
+        salt: &values.salt.to_vec(),
+        key: &values.key.to_vec(),
+    };
+    Ok(match subject.line_write(&parts, &mut line) {
+        None => None,
+        Some(Ok(len)) => {
+            let line = lent::written("line's output", &line, len)?.to_vec();
+            Some(Answer::LineWritten { line })
+        }
+        Some(Err(refusal)) => {
+            lent::bytes_are_kept("line's output", &line, 0)?;
+            Some(Answer::Refused(refusal))
+        }
+    })
 }
 
 /// Compares two answers; an error names the first field that differs.
@@ -183,11 +245,18 @@ pub fn check_case(subject: &impl Subject, case: &Case) -> Result<Coverage, Strin
     })
 }
 
-/// Asks the operations that share a recorded derivation's inputs for what they share of its answer, and
-/// says whether there was anything to ask.
+/// Asks the operations that share a question's inputs for what they share of its answer, and says whether there was
+/// anything to ask: those beside a recorded derivation, and the inverse of reading or writing a login line.
 pub fn agree(subject: &impl Subject, question: &Question, answer: &Answer) -> Result<bool, String> {
-    let Question::DeriveRecorded { given, key_len, .. } = question else {
-        return Ok(false);
+    let (given, key_len) = match (question, answer) {
+        (Question::DeriveRecorded { given, key_len, .. }, _) => (given, key_len),
+        (Question::LineRead { line, .. }, Answer::LineRead(values)) => {
+            return agree_on_line(subject, line, values)
+        }
+        (Question::LineWrite { values, .. }, Answer::LineWritten { line }) => {
+            return agree_on_line(subject, line, values)
+        }
+        _ => return Ok(false),
     };
     match answer {
         Answer::Recorded { key, counts, .. } => {
@@ -252,6 +321,32 @@ fn agree_on_refusal(
     Ok(!others.is_empty())
 }
 
+/// An accepted line is written from its values, and they are read from it; outputs that fit exactly are lent.
+fn agree_on_line(
+    subject: &impl Subject,
+    line: &[u8],
+    values: &LoginValues,
+) -> Result<bool, String> {
+    let listed = LoginValues {
+        salt: Bytes::Listed(values.salt.to_vec()),
+        key: Bytes::Listed(values.key.to_vec()),
+        ..values.clone()
+    };
+    let write = Question::LineWrite {
+        values: values.clone(),
+        line_room: line.len() as u64,
+    };
+    let read = Question::LineRead {
+        line: line.to_vec(),
+        salt_room: values.salt.count(),
+        key_room: values.key.count(),
+    };
+    let line = line.to_vec();
+    let wrote = expect_if_offered(subject, &write, &Answer::LineWritten { line })?;
+    let has_read = expect_if_offered(subject, &read, &Answer::LineRead(listed))?;
+    Ok(wrote || has_read)
+}
+
 fn derive_question(given: &Given, key_len: u64) -> Question {
     let given = given.clone();
     Question::Derive { given, key_len }
@@ -265,5 +360,23 @@ fn check_question(given: &Given, stored: Bytes) -> Question {
 fn expect(subject: &impl Subject, question: &Question, expected: &Answer) -> Result<(), String> {
     ask(subject, question)
         .and_then(|found| compare(expected, &found))
-        .map_err(|what| format!("{} on the same inputs: {what}", write::op(question)))
+        .map_err(|what| on_the_same_inputs(question, &what))
+}
+
+/// The same where the program may lack the operation; says whether it has it.
+fn expect_if_offered(
+    subject: &impl Subject,
+    question: &Question,
+    expected: &Answer,
+) -> Result<bool, String> {
+    ask_if_offered(subject, question)
+        .and_then(|found| match found {
+            Some(found) => compare(expected, &found).map(|()| true),
+            None => Ok(false),
+        })
+        .map_err(|what| on_the_same_inputs(question, &what))
+}
+
+fn on_the_same_inputs(question: &Question, what: &str) -> String {
+    format!("{} on the same inputs: {what}", write::op(question))
 }

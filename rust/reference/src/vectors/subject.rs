@@ -1,10 +1,10 @@
 //! The program that a vectors file is held against.
 
-use crate::{Checked, Counts, Inputs, Parameters, Recorded, Refusal};
+use crate::{Checked, Counts, Inputs, LineParts, LineValues, Parameters, Recorded, Refusal};
 
 /// The operations of an implementation of Lyra2, as document 01 opens them to callers.
 ///
-/// A program may lack the recorded derivation or the walk program; it then leaves their default, None.
+/// A program may lack the recorded derivation, the walk program or the login lines; it then leaves their default, None.
 pub trait Subject {
     /// The recorded derivation.
     fn derive_recorded(
@@ -37,6 +37,21 @@ pub trait Subject {
 
     /// The walk program.
     fn walk_program(&self, _input: &[u8]) -> Option<Vec<u8>> {
+        None
+    }
+
+    /// The reading of a login line.
+    fn line_read(
+        &self,
+        _line: &[u8],
+        _salt: &mut [u8],
+        _key: &mut [u8],
+    ) -> Option<Result<LineValues, Refusal>> {
+        None
+    }
+
+    /// The writing of a login line; returns its length.
+    fn line_write(&self, _parts: &LineParts, _line: &mut [u8]) -> Option<Result<u64, Refusal>> {
         None
     }
 }
@@ -83,5 +98,18 @@ impl Subject for Reference {
 
     fn walk_program(&self, input: &[u8]) -> Option<Vec<u8>> {
         Some(crate::walk_program(input))
+    }
+
+    fn line_read(
+        &self,
+        line: &[u8],
+        salt: &mut [u8],
+        key: &mut [u8],
+    ) -> Option<Result<LineValues, Refusal>> {
+        Some(crate::line_read(line, salt, key))
+    }
+
+    fn line_write(&self, parts: &LineParts, line: &mut [u8]) -> Option<Result<u64, Refusal>> {
+        Some(crate::line_write(parts, line))
     }
 }

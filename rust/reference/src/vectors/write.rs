@@ -1,6 +1,6 @@
 //! Writing a case as a line of text.
 
-use super::case::{Answer, Bytes, Case, Given, Question};
+use super::case::{Answer, Bytes, Case, Given, LoginValues, Question};
 use crate::sponge::Counts;
 
 /// The first lines of the vectors file.
@@ -31,6 +31,8 @@ pub fn op(question: &Question) -> &'static str {
         Question::Cost(_) => "cost",
         Question::Walk { .. } => "walk",
         Question::WalkProgram { .. } => "walk_program",
+        Question::LineRead { .. } => "line_read",
+        Question::LineWrite { .. } => "line_write",
     }
 }
 
@@ -64,6 +66,19 @@ fn question(question: &Question) -> Vec<Field> {
         ],
         Question::Walk { r, row0 } => vec![("R", r.to_string()), ("row0", row0.to_string())],
         Question::WalkProgram { input } => vec![("input", hex(input))],
+        Question::LineRead {
+            line,
+            salt_room,
+            key_room,
+        } => vec![
+            ("line", hex(line)),
+            ("salt_room", salt_room.to_string()),
+            ("key_room", key_room.to_string()),
+        ],
+        Question::LineWrite { values, line_room } => {
+            let line_room = vec![("line_room", line_room.to_string())];
+            [login_values(values), line_room].concat()
+        }
     }
 }
 
@@ -75,6 +90,16 @@ fn given(given: &Given) -> Vec<Field> {
         ("R", given.r.to_string()),
         ("C", given.c.to_string()),
         ("matrix_words", given.matrix_words.to_string()),
+    ]
+}
+
+fn login_values(values: &LoginValues) -> Vec<Field> {
+    vec![
+        ("T", values.t.to_string()),
+        ("R", values.r.to_string()),
+        ("C", values.c.to_string()),
+        bytes("salt", "salt_zeros", &values.salt),
+        bytes("key", "key_zeros", &values.key),
     ]
 }
 
@@ -112,6 +137,8 @@ pub fn answer(answer: &Answer) -> Vec<Field> {
             fields.extend(output.listed.iter().map(|bytes| ("output", hex(bytes))));
             fields
         }
+        Answer::LineRead(values) => [accepted, login_values(values)].concat(),
+        Answer::LineWritten { line } => [accepted, vec![("line", hex(line))]].concat(),
     }
 }
 
