@@ -3,6 +3,7 @@
 //! A seed stands for one comparison, so a failure is repeated by its seed alone.
 
 use crate::guarded::{byte, word, Guarded};
+use crate::lines;
 use lyra2_reference::vectors::random::Random;
 use lyra2_reference::vectors::{Reference, Subject};
 use lyra2_reference::{Checked, Counts, Inputs, Parameters, Recorded, Refusal};
@@ -13,8 +14,10 @@ use std::fmt::{Debug, LowerHex};
 pub struct Compared {
     /// The six numbers of the input.
     pub sizes: Parameters,
-    /// What both programs answered to the recorded derivation, which alone has all the checks.
+    /// What both programs answered to the recorded derivation, which alone has all the checks of a derivation.
     pub answer: Result<Recorded, Refusal>,
+    /// What both programs answered to the login lines that were read and written: no refusal, or one.
+    pub lines: Vec<Result<(), Refusal>>,
 }
 
 /// The sizes of a call.
@@ -44,7 +47,10 @@ struct End {
     used_record: Vec<u64>,
 }
 
-/// Makes the comparison of a seed: both derivations, the cost question, and three checks.
+/// Login lines of a seed.
+const LINES: usize = 4;
+
+/// Makes the comparison of a seed: both derivations, the cost question, three checks, and some login lines.
 pub fn compare(subject: &impl Subject, seed: u64) -> Result<Compared, String> {
     let mut random = Random::new(seed);
     let sizes = draw_sizes(&mut random);
@@ -63,9 +69,11 @@ pub fn compare(subject: &impl Subject, seed: u64) -> Result<Compared, String> {
     }
     lent.password.used("password", 0).map_err(at_sizes)?;
     lent.salt.used("salt", 0).map_err(at_sizes)?;
+    let lines = (0..LINES).map(|_| lines::compare_question(subject, &mut random));
     Ok(Compared {
         sizes: sizes.given,
         answer: end.recorded,
+        lines: lines.collect::<Result<_, _>>()?,
     })
 }
 
@@ -202,7 +210,7 @@ fn compare_recorded(
 }
 
 /// The first places of a lent buffer must hold what is due, and all others what they held.
-fn compare_used<T>(name: &str, due: &[T], lent: &Guarded<T>) -> Result<(), String>
+pub(crate) fn compare_used<T>(name: &str, due: &[T], lent: &Guarded<T>) -> Result<(), String>
 where
     T: Copy + PartialEq + LowerHex,
 {
@@ -254,7 +262,8 @@ fn compare_check(
     compare_used("check: matrix", &end.wiped_matrix, &matrix)
 }
 
-fn same<A: PartialEq + Debug>(name: &str, due: &A, found: &A) -> Result<(), String> {
+/// The answer that is due must be the one that was found.
+pub(crate) fn same<A: PartialEq + Debug>(name: &str, due: &A, found: &A) -> Result<(), String> {
     if due == found {
         return Ok(());
     }

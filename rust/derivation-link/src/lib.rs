@@ -1,16 +1,19 @@
 //! The proved derivation beside the second program.
 //!
-//! [`Proved`] gives the C interface the form that the vectors file and the second program share, and
-//! [`compare`] holds it against that program on random inputs.
+//! [`Proved`] gives the C interface the form that the vectors file and the second program share, [`compare`] holds it
+//! against that program on random inputs, and [`lines`] on login lines.
 
 #![forbid(unsafe_code)]
 #![warn(missing_docs)]
 
 pub mod compare;
 pub mod guarded;
+pub mod lines;
 
 use lyra2_reference::vectors::Subject;
-use lyra2_reference::{Checked, Counts, Inputs, Parameters, Recorded, Refusal};
+use lyra2_reference::{
+    Checked, Counts, Inputs, LineParts, LineValues, Parameters, Recorded, Refusal,
+};
 
 /// What the places for an answer hold before a call; no accepted call gives such a number.
 const BEFORE: u64 = 0xa5a5_a5a5_a5a5_a5a5;
@@ -108,6 +111,43 @@ impl Subject for Proved {
             assert_eq!(row1, 0, "row1 of a refused question");
         }
         accepted(number).map(|()| row1 as u64)
+    }
+
+    fn line_read(
+        &self,
+        line: &[u8],
+        salt: &mut [u8],
+        key: &mut [u8],
+    ) -> Option<Result<LineValues, Refusal>> {
+        let mut values = [BEFORE as usize; 5];
+        let number = lyra2_sys::line_read(line, salt, key, &mut values);
+        if number != 0 {
+            assert_eq!(values, [0; 5], "the values of a line that is refused");
+        }
+        let [t, r, c, salt_len, key_len] = values.map(|value| value as u64);
+        Some(accepted(number).map(|()| LineValues {
+            t,
+            r,
+            c,
+            salt_len,
+            key_len,
+        }))
+    }
+
+    fn line_write(&self, parts: &LineParts, line: &mut [u8]) -> Option<Result<u64, Refusal>> {
+        let parts = lyra2_sys::LineParts {
+            time: size(parts.t),
+            rows: size(parts.r),
+            columns: size(parts.c),
+            salt: parts.salt,
+            key: parts.key,
+        };
+        let mut line_len = BEFORE as usize;
+        let number = lyra2_sys::line_write(parts, line, &mut line_len);
+        if number != 0 {
+            assert_eq!(line_len, 0, "the length of a line that is refused");
+        }
+        Some(accepted(number).map(|()| line_len as u64))
     }
 }
 

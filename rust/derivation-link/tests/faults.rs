@@ -3,7 +3,9 @@
 use derivation_link::compare::compare;
 use derivation_link::Proved;
 use lyra2_reference::vectors::Subject;
-use lyra2_reference::{Checked, Counts, Inputs, Parameters, Recorded, Refusal};
+use lyra2_reference::{
+    Checked, Counts, Inputs, LineParts, LineValues, Parameters, Recorded, Refusal,
+};
 
 #[derive(Clone, Copy, Debug, PartialEq, Eq)]
 enum Fault {
@@ -44,6 +46,23 @@ enum Fault {
     ShortSaltRefusedWith10,
     Salt64Refused,
     LongSaltAfterTime,
+    LinesMissing,
+    NewlineTaken,
+    LeadingZeroTaken,
+    PaddingTaken,
+    LineAsShortOutput,
+    ColumnsAsShortOutput,
+    SaltOfShortKey,
+    OutputsExchanged,
+    BytePastSalt,
+    BytePastKey,
+    KeyLengthOneMore,
+    LineReadChanged,
+    BytePastLine,
+    LastByteOfLine,
+    LineOnRefusal,
+    LineLengthOneMore,
+    SaltOfWrittenLineChanged,
 }
 
 use Fault::*;
@@ -178,6 +197,76 @@ impl Subject for Faulty {
     fn walk(&self, r: u64, row0: u64) -> Result<u64, Refusal> {
         Proved.walk(r, row0)
     }
+
+    fn line_read(
+        &self,
+        line: &[u8],
+        salt: &mut [u8],
+        key: &mut [u8],
+    ) -> Option<Result<LineValues, Refusal>> {
+        let read = match self.0 {
+            LinesMissing => return None,
+            NewlineTaken => line.strip_suffix(b"\n").unwrap_or(line).to_vec(),
+            PaddingTaken => line.strip_suffix(b"=").unwrap_or(line).to_vec(),
+            LeadingZeroTaken => {
+                let place = line.windows(3).position(|three| three == b"c=0");
+                let mut line = line.to_vec();
+                place.map(|place| line.remove(place + 2));
+                line
+            }
+            _ => line.to_vec(),
+        };
+        let mut answer = Proved.line_read(&read, salt, key)?;
+        match (&mut answer, self.0) {
+            (Err(Refusal::LineForm), LineAsShortOutput) if salt.len() < 8 => {
+                answer = Err(Refusal::OutputTooShort);
+            }
+            (Err(Refusal::Columns), ColumnsAsShortOutput) if salt.len() < 8 => {
+                answer = Err(Refusal::OutputTooShort);
+            }
+            (Err(Refusal::OutputTooShort), SaltOfShortKey) => {
+                let mut room = vec![0; 1024];
+                let _ = Proved.line_read(&read, salt, &mut room);
+            }
+            (Ok(read), OutputsExchanged) => {
+                let len = read.salt_len.min(read.key_len) as usize;
+                salt[..len].swap_with_slice(&mut key[..len]);
+            }
+            (Ok(read), BytePastSalt) => clear(salt, read.salt_len),
+            (Ok(read), BytePastKey) => clear(key, read.key_len),
+            (Ok(read), KeyLengthOneMore) => read.key_len += 1,
+            (Ok(read), LineReadChanged) => read.r ^= 1,
+            _ => (),
+        }
+        Some(answer)
+    }
+
+    fn line_write(&self, parts: &LineParts, line: &mut [u8]) -> Option<Result<u64, Refusal>> {
+        let mut salt = parts.salt.to_vec();
+        if self.0 == SaltOfWrittenLineChanged {
+            salt.iter_mut().take(1).for_each(|byte| *byte ^= 1);
+        }
+        let parts = LineParts {
+            salt: &salt,
+            ..*parts
+        };
+        let mut answer = Proved.line_write(&parts, line)?;
+        match (&mut answer, self.0) {
+            (_, LinesMissing) => return None,
+            (Ok(len), BytePastLine) => clear(line, *len),
+            (Ok(len), LastByteOfLine) => line[*len as usize - 1] ^= 1,
+            (Ok(len), LineLengthOneMore) => *len += 1,
+            (Err(_), LineOnRefusal) => line.iter_mut().take(1).for_each(|byte| *byte = b'$'),
+            _ => (),
+        }
+        Some(answer)
+    }
+}
+
+/// Clears the byte at a place, if there is one.
+fn clear(bytes: &mut [u8], place: u64) {
+    let byte = bytes.iter_mut().nth(place as usize);
+    byte.into_iter().for_each(|byte| *byte = 0);
 }
 
 #[test]
@@ -220,6 +309,23 @@ fn every_fault_is_noticed() {
         ShortSaltRefusedWith10,
         Salt64Refused,
         LongSaltAfterTime,
+        LinesMissing,
+        NewlineTaken,
+        LeadingZeroTaken,
+        PaddingTaken,
+        LineAsShortOutput,
+        ColumnsAsShortOutput,
+        SaltOfShortKey,
+        OutputsExchanged,
+        BytePastSalt,
+        BytePastKey,
+        KeyLengthOneMore,
+        LineReadChanged,
+        BytePastLine,
+        LastByteOfLine,
+        LineOnRefusal,
+        LineLengthOneMore,
+        SaltOfWrittenLineChanged,
     ] {
         let noticed = |seed: u64| compare(&Faulty(fault), seed).is_err();
         assert!((0..5000).any(noticed), "{fault:?}");

@@ -4,6 +4,7 @@ use derivation_link::compare::compare;
 use derivation_link::Proved;
 use lyra2_reference::vectors::random::{question, Random};
 use lyra2_reference::vectors::{run, Case, Coverage, Reference};
+use lyra2_reference::Refusal;
 use std::collections::BTreeSet;
 
 const FIRST_SEED: u64 = 0x4c79_7261_3200;
@@ -18,6 +19,8 @@ struct Met {
     salts: BTreeSet<u64>,
     times: BTreeSet<u64>,
     refusals: BTreeSet<u8>,
+    /// Of login lines; 0 is an accepted one.
+    lines: BTreeSet<u8>,
 }
 
 #[test]
@@ -26,6 +29,8 @@ fn every_length_and_every_refusal_is_met_and_the_two_programs_agree() {
     for seed in FIRST_SEED..FIRST_SEED + COMPARISONS {
         let compared = compare(&Proved, seed)
             .unwrap_or_else(|what| panic!("{what}; `compare-random {seed} 1` repeats it"));
+        let number = |answer: &Result<(), Refusal>| answer.err().map_or(0, Refusal::number);
+        met.lines.extend(compared.lines.iter().map(number));
         if let Err(refusal) = compared.answer {
             met.refusals.insert(refusal.number());
             continue;
@@ -40,6 +45,7 @@ fn every_length_and_every_refusal_is_met_and_the_two_programs_agree() {
     assert_eq!(met.salts, (8..=64).collect());
     assert!((0..=9).all(|t| met.times.contains(&t)));
     assert_eq!(met.refusals, (1..=8).chain([10]).collect());
+    assert_eq!(met.lines, [0, 1, 3, 4, 5, 6, 10, 11, 12].into());
 }
 
 /// The second program's own questions, recorded derivations of larger matrices than the comparisons have.

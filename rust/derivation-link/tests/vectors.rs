@@ -93,6 +93,14 @@ fn cost_questions() {
 }
 
 #[test]
+fn login_lines() {
+    let is_read = |case: &Case| matches!(case.question, Question::LineRead { .. });
+    assert!(run_lines(is_read) >= 700);
+    let is_written = |case: &Case| matches!(case.question, Question::LineWrite { .. });
+    assert!(run_lines(is_written) >= 200);
+}
+
+#[test]
 fn walk_questions() {
     let wanted = |case: &Case| matches!(case.question, Question::Walk { .. });
     assert!(run_lines(wanted) >= 220);

@@ -1,12 +1,13 @@
 //! Holds the proved library against the second program on random inputs, for runs longer than the tests.
 //!
-//! `compare-random SEED COUNT` makes the comparisons of COUNT seeds from SEED on. A line every ten seconds says
+//! `compare-random SEED COUNT` makes the comparisons of COUNT seeds from SEED on, derivations and login lines. A line every ten seconds says
 //! how far it is and from which seed to go on; a failure names the seed that repeats it.
 
 #![forbid(unsafe_code)]
 
 use derivation_link::compare::compare;
 use derivation_link::Proved;
+use lyra2_reference::Refusal;
 use std::panic::catch_unwind;
 use std::process::ExitCode;
 use std::time::{Duration, Instant};
@@ -45,10 +46,12 @@ fn run(first_seed: u64, count: u64) -> Result<String, String> {
             let rate = rate(done, began);
             eprintln!("{done} of {count} compared, {rate} a second; the next seed is {seed}");
         }
-        if compare_seed(seed)? {
-            accepted += 1;
-        } else {
-            refused += 1;
+        for call in compare_seed(seed)? {
+            if call.is_ok() {
+                accepted += 1;
+            } else {
+                refused += 1;
+            }
         }
     }
     let rate = rate(count, began);
@@ -57,12 +60,16 @@ fn run(first_seed: u64, count: u64) -> Result<String, String> {
     ))
 }
 
-/// Makes the comparison of a seed and tells whether the call was accepted. Where the library breaks a promise
-/// that its caller asserts, that panics, and the seed has to be named all the same.
-fn compare_seed(seed: u64) -> Result<bool, String> {
+/// Makes the comparison of a seed and tells what its calls answered, the derivation and the login lines. Where the
+/// library breaks a promise that its caller asserts, that panics, and the seed has to be named all the same.
+fn compare_seed(seed: u64) -> Result<Vec<Result<(), Refusal>>, String> {
     let repeat = |what: &str| format!("{what}; `compare-random {seed} 1` repeats it");
     match catch_unwind(|| compare(&Proved, seed)) {
-        Ok(Ok(compared)) => Ok(compared.answer.is_ok()),
+        Ok(Ok(compared)) => {
+            let mut answers = compared.lines;
+            answers.push(compared.answer.map(drop));
+            Ok(answers)
+        }
         Ok(Err(what)) => Err(repeat(&what)),
         Err(_) => Err(repeat("the call broke an assertion")),
     }

@@ -1,4 +1,4 @@
-//! Random questions about login lines: lines from the grammar, most of them with a fault or two.
+//! Random questions about login lines: lines from the grammar, of which about a half are accepted.
 
 use super::case::{Bytes, LoginValues, Question};
 use super::random::Random;
@@ -13,7 +13,7 @@ pub fn question(random: &mut Random) -> Question {
     }
 }
 
-/// A line to be read, accepted about one time in three.
+/// A line to be read.
 pub fn read(random: &mut Random) -> Question {
     let (salt_len, key_len) = lengths(random);
     let (salt, key) = (random.bytes(salt_len), random.bytes(key_len));
@@ -25,7 +25,7 @@ pub fn read(random: &mut Random) -> Question {
     }
 }
 
-/// A line to be written, accepted about every other time.
+/// A line to be written.
 pub fn written(random: &mut Random) -> Question {
     let (salt_len, key_len) = lengths(random);
     let mut values = LoginValues {
@@ -78,7 +78,7 @@ fn room(random: &mut Random, len: u64) -> u64 {
     }
 }
 
-/// A line of the grammar; in one of three times with faults.
+/// A line of the grammar; one in three may have faults.
 fn line(random: &mut Random, salt: &[u8], key: &[u8]) -> Vec<u8> {
     let faulty = random.once_in(3);
     let numbers = [255, 16_384, 256].map(|most| number(random, most, faulty));
