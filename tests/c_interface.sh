@@ -1,13 +1,14 @@
 #!/usr/bin/env bash
-# The C interface from C: what the archive exports and needs, the header's limits, the refusals in pairs, the stack, what
-# is left on it, and the vectors; and wrong headers, wrong vectors and faulty libraries, which these tests have to find.
+# The C interface from C: what the archive exports and needs, the header's limits, the refusals in pairs, login lines, the
+# stack, what is left on it, and the vectors; and wrong headers, wrong vectors and faulty libraries, which these tests have
+# to find.
 set -eu
 cd "$(dirname "$0")/.."
 . tests/c/build.sh
 
-# ---- the archive: five functions, nothing needed from elsewhere, no section to write in
+# ---- the archive: seven functions, nothing needed from elsewhere, no section to write in
 names=$(nm -g --defined-only "$library" 2>"$work/log" | sed -n 's/^[0-9a-f]* //p' | sort | tr '\n' ' ')
-same 'exported names' 'T lyra2_check T lyra2_cost T lyra2_derive T lyra2_derive_recorded T lyra2_walk ' "$names"
+same 'exported names' "$(printf 'T lyra2_%s ' check cost derive derive_recorded line_read line_write walk)" "$names"
 nm -u "$library" >"$work/undefined" 2>"$work/log"
 same 'names from elsewhere' '' "$(sed -n 's/^ *[Uwv] //p' "$work/undefined")"
 readelf -SW "$library" >"$work/sections"
@@ -15,21 +16,23 @@ grep -q ' AX ' "$work/sections" || { echo 'readelf shows no code'; exit 1; }
 same 'sections to write in' '' "$(grep -E ' (WA|WAT|AW)[A-Z]* ' "$work/sections" || true)"
 
 # ---- the programs
-compile limits refusals stack left marked vectors fields calls lent
+compile limits refusals lines stack left marked vectors fields calls line_calls lent
 cc "${flags[@]}" "$work"/{limits,calls,lent}.o "$library" -o "$work/limits"
 cc "${flags[@]}" "$work"/{refusals,calls,lent}.o "$library" -o "$work/refusals"
+cc "${flags[@]}" "$work"/{lines,calls,line_calls,lent}.o "$library" -o "$work/lines"
 cc "${flags[@]}" "$work"/{stack,marked,lent}.o "$library" -o "$work/stack"
 cc "${flags[@]}" "$work"/{left,marked,calls,lent}.o "$library" -o "$work/left"
-cc "${flags[@]}" "$work"/{vectors,fields,calls,lent}.o "$library" -o "$work/vectors"
+cc "${flags[@]}" "$work"/{vectors,fields,calls,line_calls,lent}.o "$library" -o "$work/vectors"
 "$work/limits"
 "$work/refusals"
+"$work/lines"
 "$work/stack"
 "$work/left"
 "$work/vectors" vectors/lyra2.txt >"$work/ran"
 cat "$work/ran"
 
 # Every line of the file was put to the library, as grep counts them.
-for op in derive_recorded derive check cost walk; do
+for op in derive_recorded derive check cost walk line_read line_write; do
     lines=$(grep -c " op=$op " vectors/lyra2.txt)
     grep -qE " $lines $op( lines|,)" "$work/ran" || { echo "not all $lines lines of $op were run"; exit 1; }
 done
@@ -40,8 +43,12 @@ headers=0
 while read -r edit; do
     sed "$edit" include/lyra2.h >"$work/include/lyra2.h"
     ! cmp -s include/lyra2.h "$work/include/lyra2.h" || { echo "no header to spoil: $edit"; exit 1; }
-    cc -std=c99 -I"$work/include" tests/c/{limits,calls,lent}.c "$library" -o "$work/wrong"
-    ! "$work/wrong" >"$work/log" 2>&1 || { echo "a wrong header passes: $edit"; exit 1; }
+    passes=yes
+    for program in limits lines; do
+        cc -std=c99 -I"$work/include" tests/c/{$program,calls,line_calls,lent}.c "$library" -o "$work/wrong"
+        "$work/wrong" >"$work/log" 2>&1 || { passes=no; break; }
+    done
+    [ $passes = no ] || { echo "a wrong header passes: $edit"; exit 1; }
     grep -q '^FAILED: ' "$work/log" || { cat "$work/log"; exit 1; }
     headers=$((headers + 1))
 done <<'END'
@@ -63,12 +70,25 @@ s/REFUSED_ROWS = 5/REFUSED_ROWS = 6/; s/REFUSED_COLUMNS = 6/REFUSED_COLUMNS = 5/
 s/TOO_SHORT = 3/TOO_SHORT = 10/; s/TOO_LONG = 10/TOO_LONG = 3/
 s/at least 8 bytes/at least 9 bytes/
 s/at most 64 bytes/at most 65 bytes/
+s/LINE_MAX 1480/LINE_MAX 1479/
+s/LINE_MAX 1480/LINE_MAX 1481/
+s/LINE_VALUES 5/LINE_VALUES 4/
+s/LINE_VALUES 5/LINE_VALUES 6/
+s/LINE_TIME 0/LINE_TIME 1/; s/LINE_ROWS 1/LINE_ROWS 0/
+s/LINE_TIME 0/LINE_TIME 2/; s/LINE_COLUMNS 2/LINE_COLUMNS 0/
+s/LINE_ROWS 1/LINE_ROWS 2/; s/LINE_COLUMNS 2/LINE_COLUMNS 1/
+s/LINE_SALT_LEN 3/LINE_SALT_LEN 4/; s/LINE_KEY_LEN 4/LINE_KEY_LEN 3/
+s/REFUSED_LINE = 11/REFUSED_LINE = 12/; s/REFUSED_OUTPUT = 12/REFUSED_OUTPUT = 11/
+s/REFUSED_OUTPUT = 12/REFUSED_OUTPUT = 13/
+s/form [$]lyra2[$]t=T,r=R,c=C/form $lyra2$t=T,c=C,r=R/
+s/a lent output is too short/a lent output is too long/
+s/a lent output is too short/the line is not of the form $lyra2$t=T,r=R,c=C$SALT$KEY/
 END
 
 # ---- wrong vectors: the first accepted line of an operation with one field spoilt
 wrong=0
 for spoilt in derive_recorded:{key,state,full,reduced,rounds,matrix_sum,record_sum,matrix,record} derive:{key,matrix_sum} \
-    check:{answer,matrix_sum,full} cost:{full,rounds} walk:row1; do
+    check:{answer,matrix_sum,full} cost:{full,rounds} walk:row1 line_read:{T,R,C,salt,key} line_write:line; do
     field=${spoilt#*:}
     line=$(grep " op=${spoilt%:*} .* refusal=0 .*\<$field=" vectors/lyra2.txt | sed -n 1p)
     changed=$(sed -E "s/ $field=yes/ $field=NO/; s/ $field=no/ $field=yes/; s/ $field=NO/ $field=no/
@@ -83,23 +103,27 @@ done
 # ---- faulty libraries
 build_faulty() { # FAULT PROGRAM
     compile_fault "$1"
-    cc "$wrapped" "$work"/{$2,calls,lent,faulty}.o "$library" -o "$work/faulty" || exit 1
+    cc "$wrapped" "$work"/{"$2",calls,line_calls,lent,faulty,faulty_lines}.o "$library" -o "$work/faulty" || exit 1
 }
-is_found() { # FAULT
+is_found() { # FAULT PROGRAM..
     local program
-    for program in limits refusals; do
+    for program in "${@:2}"; do
         build_faulty "$1" $program
         "$work/faulty" >"$work/log" 2>&1 || { grep -q "^FAILED: " "$work/log"; return; }
     done
     return 1
 }
-for program in limits refusals; do
+for program in limits refusals lines; do
     build_faulty 0 $program
     "$work/faulty" >"$work/log" 2>&1 || { cat "$work/log"; echo 'the wrapped library without a fault fails'; exit 1; }
 done
 found=0
 for fault in {1..54}; do
-    is_found "$fault" || { echo "fault $fault is not found"; exit 1; }
+    is_found "$fault" limits refusals || { echo "fault $fault is not found"; exit 1; }
+    found=$((found + 1))
+done
+for fault in {101..128} {131..142}; do
+    is_found "$fault" lines || { echo "fault $fault is not found"; exit 1; }
     found=$((found + 1))
 done
 
@@ -107,7 +131,7 @@ done
 # it would leave more there.
 report_left() { # FAULT
     compile_fault "$1"
-    cc "$wrapped" -Wl,-z,now "$work"/{left,marked,calls,lent,faulty}.o "$library" -o "$work/faulty" || exit 1
+    cc "$wrapped" -Wl,-z,now "$work"/{left,marked,calls,lent,faulty,faulty_lines}.o "$library" -o "$work/faulty" || exit 1
     "$work/faulty" 2>&1 && echo 'nothing is found'
 }
 same 'the stack of the wrapped library without a fault' 'nothing is found' "$(report_left 0 | tail -n 1)"

@@ -1,7 +1,7 @@
 #!/usr/bin/env bash
 # The C interface under valgrind's memcheck: no byte outside of what is lent, nothing that depends on what lent memory
-# held before, no touch by a refused call of more than its answer, no branch on the bytes of a stored key; and faulty
-# libraries, which it finds.
+# held before, no touch by a refused call of more than its answer and the line that it reads, no branch on the bytes of a
+# stored key or of one that a line is written from; and faulty libraries, which it finds.
 set -eu
 cd "$(dirname "$0")/.."
 . tests/c/build.sh
@@ -12,31 +12,40 @@ memcheck() { # PROGRAM ARGUMENT..
 }
 
 flags+=(-g)
-compile memcheck refusals vectors fields calls lent
-cc "$work"/{memcheck,calls,lent}.o "$library" -o "$work/memcheck"
+compile memcheck memcheck_lines watched refusals lines vectors fields calls line_calls lent
+cc "$work"/{memcheck,watched,calls,lent}.o "$library" -o "$work/memcheck"
+cc "$work"/{memcheck_lines,watched,calls,lent}.o "$library" -o "$work/memcheck_lines"
 cc "$work"/{refusals,calls,lent}.o "$library" -o "$work/refusals"
-cc "$work"/{vectors,fields,calls,lent}.o "$library" -o "$work/vectors"
+cc "$work"/{lines,calls,line_calls,lent}.o "$library" -o "$work/lines"
+cc "$work"/{vectors,fields,calls,line_calls,lent}.o "$library" -o "$work/vectors"
 # A pipe would hide the status.
 memcheck "$work/memcheck" >"$work/ran"
+memcheck "$work/memcheck_lines" >>"$work/ran"
 cat "$work/ran"
 memcheck "$work/refusals"
+memcheck "$work/lines"
 cc "${flags[@]}" examples/derive_and_check.c "$library" -o "$work/example"
 same 'the example' "$(cat examples/derive_and_check.out)" "$(printf 'correct horse' | memcheck "$work/example" 'salt of 16 bytes' 1 256 64 32)"
 
-# Every third of the vectors whose matrix has fewer than 1,000 words; all of them would take minutes.
+# Every third of the vectors whose matrix has fewer than 1,000 words, since all of them would take minutes, and the lines.
 grep -E ' op=(cost|walk) | matrix_words=[0-9]{1,3} ' vectors/lyra2.txt | awk 'NR % 3 == 0' >"$work/small"
+grep -E ' op=line_(read|write) ' vectors/lyra2.txt >>"$work/small"
 memcheck "$work/vectors" "$work/small"
 
 # ---- faulty libraries, and what is said of each
-report() { # FAULT
+report() { # FAULT PROGRAM
     compile_fault "$1"
-    cc "$wrapped" "$work"/{memcheck,calls,lent,faulty}.o "$library" -o "$work/faulty" || exit 1
+    cc "$wrapped" "$work"/{"$2",watched,calls,lent,faulty,faulty_lines}.o "$library" -o "$work/faulty" || exit 1
     memcheck "$work/faulty" 2>&1 && echo 'nothing is found'
 }
-same 'the wrapped library without a fault' 'nothing is found' "$(report 0 | tail -n 1)"
+for program in memcheck memcheck_lines; do
+    same 'the wrapped library without a fault' 'nothing is found' "$(report 0 $program | tail -n 1)"
+done
 found=0
 while read -r fault words; do
-    report "$fault" >"$work/log" || true
+    program=memcheck
+    [ "$fault" -lt 100 ] || program=memcheck_lines
+    report "$fault" $program >"$work/log" || true
     grep -q "$words" "$work/log" || { cat "$work/log"; echo "fault $fault is not found"; exit 1; }
     found=$((found + 1))
 done <<'END'
@@ -57,5 +66,20 @@ done <<'END'
 62 key: depends on what the memory held
 63 Invalid write of size 8
 64 Conditional jump or move depends on uninitialised value
+117 salt: written past its used part
+118 key: written past its used part
+119 Invalid write of size 1
+124 values: depends on what the memory held
+127 Invalid write of size
+133 line: written past its used part
+134 Invalid write of size 1
+135 line_len: depends on what the memory held
+137 Invalid write of size 1
+161 Invalid read of size 1
+162 key: depends on what the memory held
+163 Invalid read of size 1
+164 line: written past its used part
+165 Conditional jump or move depends on uninitialised value
 END
-echo "valgrind: $(sed 's/^memcheck: //' "$work/ran") without an error, $found faulty libraries were found"
+calls=$(awk '{ sum += $(NF - 1) } END { print sum }' "$work/ran")
+echo "valgrind: $calls calls without an error, $found faulty libraries were found"

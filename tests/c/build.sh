@@ -6,7 +6,7 @@ library=target/staticlib/libderivation_export.a
 work=$(mktemp -d)
 trap 'rm -rf "$work"' EXIT
 flags=(-std=c99 -O2 -Wall -Wextra -pedantic -Werror -Iinclude)
-wrapped=-Wl,--wrap=lyra2_derive,--wrap=lyra2_derive_recorded,--wrap=lyra2_check,--wrap=lyra2_cost,--wrap=lyra2_walk
+wrapped=-Wl$(printf ',--wrap=lyra2_%s' derive derive_recorded check cost walk line_read line_write)
 
 same() { # WHAT EXPECTED FOUND
     [ "$2" = "$3" ] || { echo "$1: expected '$2', found '$3'"; exit 1; }
@@ -20,7 +20,10 @@ compile() { # NAME..
     done
 }
 
-# Compiles the faulty library to an object; `wrapped` is for the linker.
+# Compiles the faulty library to two objects; `wrapped` is for the linker.
 compile_fault() { # FAULT
-    cc "${flags[@]}" -DFAULT="$1" -c tests/c/faulty.c -o "$work/faulty.o" || exit 1
+    local name
+    for name in faulty faulty_lines; do
+        cc "${flags[@]}" -DFAULT="$1" -c "tests/c/$name.c" -o "$work/$name.o" || exit 1
+    done
 }

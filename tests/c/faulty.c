@@ -1,7 +1,7 @@
 /*
  * A library with one fault, to see that the tests of the C interface find it: linked with --wrap, it stands between a
  * test and the library. FAULT chooses the fault; 0 is none, those from 60 on are seen by memcheck alone, and those from
- * 70 on by the search of the stack alone.
+ * 70 on by the search of the stack alone. Those from 100 on are in faulty_lines.c.
  */
 #include "lyra2.h"
 

@@ -3,6 +3,7 @@
  * that is lent; what a call writes is marked as never written, so an answer that depended on it would be marked too.
  */
 #include "calls.h"
+#include "watched.h"
 
 #include <stdio.h>
 #include <stdlib.h>
@@ -17,23 +18,6 @@ struct memory {
     uint64_t *matrix, *record, *state, *counts;
     uint32_t *same;
 };
-
-/* Memory of exactly this length, never written; no bytes have an address too, at which none may be touched. */
-static void *unwritten(size_t bytes)
-{
-    void *memory = malloc(bytes);
-    if (memory == NULL)
-        fail("no memory for %zu bytes", bytes);
-    return memory;
-}
-
-static uint8_t *written(size_t bytes, uint8_t first)
-{
-    uint8_t *memory = unwritten(bytes);
-    for (size_t i = 0; i < bytes; i++)
-        memory[i] = (uint8_t)(first + 7 * i);
-    return memory;
-}
 
 static struct memory lend_all(const struct sizes *n)
 {
@@ -55,35 +39,6 @@ static void take_all_back(struct memory *m)
     void *all[] = {m->password, m->salt, m->key, m->stored, m->matrix, m->record, m->state, m->counts, m->same};
     for (size_t i = 0; i < sizeof all / sizeof *all; i++)
         free(all[i]);
-}
-
-/* Whether memcheck holds every bit for never written, or for made from one that was not. */
-static int is_unwritten(const void *memory, size_t bytes)
-{
-    uint8_t bits[256], none[256];
-    memset(none, 0xff, sizeof none);
-    for (size_t i = 0; i < bytes; i += sizeof bits) {
-        size_t piece = bytes - i < sizeof bits ? bytes - i : sizeof bits;
-        if (VALGRIND_GET_VBITS((const uint8_t *)memory + i, bits, piece) != 1 || memcmp(bits, none, piece) != 0)
-            return 0;
-    }
-    return 1;
-}
-
-/* The used part was written from what was written, and past it nothing was. */
-static void require_written(const char *name, const void *memory, size_t used, size_t lent)
-{
-    if (VALGRIND_CHECK_MEM_IS_DEFINED(memory, used) != 0)
-        fail("%s: depends on what the memory held", name);
-    if (!is_unwritten((const uint8_t *)memory + used, lent - used))
-        fail("%s: written past its used part", name);
-}
-
-static void require_zeros_in(const char *name, const void *memory, size_t bytes)
-{
-    for (size_t i = 0; i < bytes; i++)
-        if (((const uint8_t *)memory)[i] != 0)
-            fail("%s: byte %zu is not zero", name, i);
 }
 
 /* Nothing is left in the used matrix of a plain derivation and a check. */
@@ -155,14 +110,6 @@ static void require_check(const struct sizes *n, int wrong)
     if (*m.same != !wrong)
         fail("the check said %u", *m.same);
     take_all_back(&m);
-}
-
-/* A field of a refused call's answer: zeros, whatever it held. It is marked as never written for the next call. */
-static void require_zero_field(const char *name, void *field, size_t bytes)
-{
-    require_written(name, field, bytes, bytes);
-    require_zeros_in(name, field, bytes);
-    (void)VALGRIND_MAKE_MEM_UNDEFINED(field, bytes);
 }
 
 static void require_answer(uint32_t answer, uint32_t due, struct memory *m)

@@ -5,15 +5,19 @@
 
 #include <stdio.h>
 
-enum { ROWS = 20, COLUMNS = 17, TIME = 2, OPERATIONS_RUN = 5 };
+enum { ROWS = 20, COLUMNS = 17, TIME = 2, OPERATIONS_RUN = 7 };
 
-static const char *const names[OPERATIONS_RUN] = {"derive", "derive_recorded", "check", "cost", "walk"};
+/* A line is written before it is read. */
+static const char *const names[OPERATIONS_RUN] = {"derive",     "derive_recorded", "check",    "cost", "walk",
+                                                  "line_write", "line_read"};
 static const uint8_t password[LYRA2_PASSWORD_MAX], salt[LYRA2_SALT_MAX];
 static uint8_t key[LYRA2_KEY_MAX];
 static uint64_t matrix[LYRA2_MATRIX_WORDS(ROWS, COLUMNS)], record[LYRA2_RECORD_WORDS(TIME, ROWS, COLUMNS)];
 static uint64_t state[LYRA2_STATE_WORDS], counts[LYRA2_COUNTS];
 static uint32_t same, answer;
 static size_t row1;
+static uint8_t line[LYRA2_LINE_MAX], read_salt[LYRA2_SALT_MAX];
+static size_t line_len, values[LYRA2_LINE_VALUES];
 
 static int operation;
 
@@ -36,8 +40,15 @@ static void call(void)
     case 3:
         answer = lyra2_cost(sizeof key, sizeof password, sizeof salt, TIME, ROWS, COLUMNS, counts);
         break;
-    default:
+    case 4:
         answer = lyra2_walk(ROWS, ROWS - 1, &row1);
+        break;
+    case 5:
+        answer = lyra2_line_write(LYRA2_TIME_MAX, LYRA2_ROWS_MAX, LYRA2_COLUMNS_MAX, salt, sizeof salt, key, sizeof key,
+                                  line, sizeof line, &line_len);
+        break;
+    default:
+        answer = lyra2_line_read(line, line_len, read_salt, sizeof read_salt, key, sizeof key, values);
     }
 }
 

@@ -4,6 +4,7 @@
  */
 #include "calls.h"
 #include "fields.h"
+#include "line_calls.h"
 
 #include <inttypes.h>
 #include <stdio.h>
@@ -17,7 +18,7 @@ struct question {
 };
 
 static const struct sizes no_sizes;
-static size_t lines_of[OPERATIONS], walk_lines;
+static size_t lines_of[OPERATIONS], walk_lines, read_lines, write_lines;
 
 /* FNV-1a over words, the lowest byte of each first. */
 static uint64_t checksum(const uint64_t *words, size_t count)
@@ -177,6 +178,71 @@ static void run_walk(struct text line)
     walk_lines++;
 }
 
+/* Bytes of a field; their start is to be freed. */
+static struct bytes require_run(struct text line, const char *name)
+{
+    struct bytes bytes;
+    bytes.start = require_bytes(line, name, &bytes.length);
+    return bytes;
+}
+
+static void free_run(struct bytes bytes)
+{
+    free((uint8_t *)bytes.start);
+}
+
+/* The written bytes of an output are those of a field. */
+static void require_output(struct text line, const char *name, const struct lent *output, size_t written)
+{
+    struct bytes due = require_run(line, name);
+    if (due.length != written || memcmp(due.start, lent_part(output), written) != 0)
+        fail("another %s is due", name);
+    free_run(due);
+}
+
+static void run_line_read(struct text line)
+{
+    static const char *const names[] = {[LYRA2_LINE_TIME] = "T", [LYRA2_LINE_ROWS] = "R", [LYRA2_LINE_COLUMNS] = "C"};
+    struct read_call call;
+    struct bytes login = require_run(line, "line");
+    size_t due = require_number(line, "refusal");
+    make_read(&call, login, require_number(line, "salt_room"), require_number(line, "key_room"));
+    if (call.answer != due)
+        fail("line_read: %zu is due, %u was answered", due, call.answer);
+    if (due == LYRA2_ACCEPTED) {
+        for (size_t place = 0; place < sizeof names / sizeof *names; place++)
+            if (line_value(&call, place) != require_number(line, names[place]))
+                fail("line_read: %s is %zu", names[place], line_value(&call, place));
+        require_output(line, "salt", &call.salt, line_value(&call, LYRA2_LINE_SALT_LEN));
+        require_output(line, "key", &call.key, line_value(&call, LYRA2_LINE_KEY_LEN));
+    }
+    end_read(&call);
+    free_run(login);
+    read_lines++;
+}
+
+static void run_line_write(struct text line)
+{
+    struct write_call call;
+    struct line_parts parts = {
+        .time = require_number(line, "T"),
+        .rows = require_number(line, "R"),
+        .columns = require_number(line, "C"),
+        .salt = require_run(line, "salt"),
+        .key = require_run(line, "key"),
+    };
+    size_t due = require_number(line, "refusal");
+    make_write(&call, parts, require_number(line, "line_room"));
+    if (call.answer != due)
+        fail("line_write: %zu is due, %u was answered", due, call.answer);
+    if (due == LYRA2_ACCEPTED)
+        require_output(line, "line", &call.line, written_length(&call));
+    end_write(&call);
+    free_run(parts.salt);
+    free_run(parts.key);
+    write_lines++;
+}
+
 static void run_any(struct text line)
 {
     struct text name = require_field(line, "op");
@@ -188,6 +254,10 @@ static void run_any(struct text line)
         }
     if (is(name, "walk"))
         run_walk(line);
+    else if (is(name, "line_read"))
+        run_line_read(line);
+    else if (is(name, "line_write"))
+        run_line_write(line);
     else if (!is(name, "walk_program"))
         fail("an unknown operation");
 }
@@ -225,6 +295,7 @@ int main(int count, char **arguments)
     printf("vectors:");
     for (enum operation operation = RECORDED; operation < OPERATIONS; operation++)
         printf(" %zu %s,", lines_of[operation], operation_names[operation]);
-    printf(" %zu walk lines; %zu calls\n", walk_lines, calls_made);
+    printf(" %zu walk, %zu line_read, %zu line_write lines; %zu calls\n", walk_lines, read_lines, write_lines,
+           calls_made);
     return 0;
 }
