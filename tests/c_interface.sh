@@ -16,18 +16,20 @@ grep -q ' AX ' "$work/sections" || { echo 'readelf shows no code'; exit 1; }
 same 'sections to write in' '' "$(grep -E ' (WA|WAT|AW)[A-Z]* ' "$work/sections" || true)"
 
 # ---- the programs
-compile limits refusals lines stack left marked vectors fields calls line_calls lent
+compile limits refusals lines stack left left_lines marked vectors fields calls line_calls lent
 cc "${flags[@]}" "$work"/{limits,calls,lent}.o "$library" -o "$work/limits"
 cc "${flags[@]}" "$work"/{refusals,calls,lent}.o "$library" -o "$work/refusals"
 cc "${flags[@]}" "$work"/{lines,calls,line_calls,lent}.o "$library" -o "$work/lines"
 cc "${flags[@]}" "$work"/{stack,marked,lent}.o "$library" -o "$work/stack"
 cc "${flags[@]}" "$work"/{left,marked,calls,lent}.o "$library" -o "$work/left"
+cc "${flags[@]}" "$work"/{left_lines,marked,lent}.o "$library" -o "$work/left_lines"
 cc "${flags[@]}" "$work"/{vectors,fields,calls,line_calls,lent}.o "$library" -o "$work/vectors"
 "$work/limits"
 "$work/refusals"
 "$work/lines"
 "$work/stack"
 "$work/left"
+"$work/left_lines"
 "$work/vectors" vectors/lyra2.txt >"$work/ran"
 cat "$work/ran"
 
@@ -129,14 +131,18 @@ done
 
 # Those that leave something on the stack, and what is said of each. No linker looks up what they call while they run, since
 # it would leave more there.
-report_left() { # FAULT
+report_left() { # FAULT PROGRAM
     compile_fault "$1"
-    cc "$wrapped" -Wl,-z,now "$work"/{left,marked,calls,lent,faulty,faulty_lines}.o "$library" -o "$work/faulty" || exit 1
+    cc "$wrapped" -Wl,-z,now "$work"/{"$2",marked,calls,lent,faulty,faulty_lines}.o "$library" -o "$work/faulty" || exit 1
     "$work/faulty" 2>&1 && echo 'nothing is found'
 }
-same 'the stack of the wrapped library without a fault' 'nothing is found' "$(report_left 0 | tail -n 1)"
+for program in left left_lines; do
+    same 'the stack of the wrapped library without a fault' 'nothing is found' "$(report_left 0 $program | tail -n 1)"
+done
 while read -r fault words; do
-    same "fault $fault" "FAILED: $words" "$(report_left "$fault")"
+    program=left
+    [ "$fault" -lt 100 ] || program=left_lines
+    same "fault $fault" "FAILED: $words" "$(report_left "$fault" $program)"
     found=$((found + 1))
 done <<'END'
 70 derive: the key from byte 0 on is left on the stack
@@ -148,5 +154,9 @@ done <<'END'
 76 check: the password from byte 0 on is left on the stack
 77 derive_recorded: the key from byte 0 on is left on the stack
 78 derive_recorded: 1 words on the stack depend on the password
+171 line_read: the key from byte 0 on is left on the stack
+172 line_read: the text of the key from byte 3 on is left on the stack
+173 line_write: the key from byte 0 on is left on the stack
+174 line_write: the text of the key from byte 3 on is left on the stack
 END
 echo "C interface: $(sed 's/^vectors: //' "$work/ran"); $headers wrong headers, $wrong wrong lines and $found faulty libraries were found"

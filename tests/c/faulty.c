@@ -3,9 +3,9 @@
  * test and the library. FAULT chooses the fault; 0 is none, those from 60 on are seen by memcheck alone, and those from
  * 70 on by the search of the stack alone. Those from 100 on are in faulty_lines.c.
  */
+#include "faulty.h"
 #include "lyra2.h"
 
-#include <stdbool.h>
 #include <stdlib.h>
 #include <string.h>
 
@@ -34,12 +34,6 @@ uint32_t __wrap_lyra2_cost(size_t key_len, size_t password_len, size_t salt_len,
                            size_t columns, uint64_t *counts);
 uint32_t __real_lyra2_walk(size_t rows, size_t row0, size_t *row1);
 uint32_t __wrap_lyra2_walk(size_t rows, size_t row0, size_t *row1);
-
-/* Whether the library has this fault, where the condition of the fault holds. */
-static bool has(int fault, bool condition)
-{
-    return FAULT == fault && condition;
-}
 
 /* Whether a plain derivation or a check is accepted, so that the used matrix is there to look at beforehand. */
 static bool is_accepted(DERIVE_PARAMETERS)
@@ -89,8 +83,7 @@ static void spoil_matrix(int fault, DERIVE_PARAMETERS)
         fill(matrix, 0, matrix_words, 0);
 }
 
-/* Leaves up to eight bytes on the stack, where no word starts, as a function does that does not wipe its own place. */
-static void leave(const uint8_t *bytes, size_t count)
+void leave(const uint8_t *bytes, size_t count)
 {
     volatile uint64_t words[2];
     volatile uint8_t *place = (volatile uint8_t *)words + 3;

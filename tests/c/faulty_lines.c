@@ -1,10 +1,11 @@
 /*
  * The part of the faulty library that reads and writes login lines: the faults from 101 on of reading, those from 131 on
- * of writing, and those from 161 on, which memcheck alone sees.
+ * of writing, those from 161 on, which memcheck alone sees, and those from 171 on, which the search of the stack alone
+ * sees.
  */
+#include "faulty.h"
 #include "lyra2.h"
 
-#include <stdbool.h>
 #include <stdlib.h>
 #include <string.h>
 
@@ -21,12 +22,6 @@ uint32_t __real_lyra2_line_read(READ_PARAMETERS);
 uint32_t __wrap_lyra2_line_read(READ_PARAMETERS);
 uint32_t __real_lyra2_line_write(WRITE_PARAMETERS);
 uint32_t __wrap_lyra2_line_write(WRITE_PARAMETERS);
-
-/* Whether the library has this fault, where the condition of the fault holds. */
-static bool has(int fault, bool condition)
-{
-    return FAULT == fault && condition;
-}
 
 static bool is_digit(uint8_t byte)
 {
@@ -86,6 +81,18 @@ static size_t misread(uint8_t *copy, const uint8_t *line, size_t length)
     for (size_t i = 0; FAULT == 109 && i < length; i++)
         copy[i] = line[i] == '-' ? '+' : line[i] == '_' ? '/' : line[i];
     return length;
+}
+
+/* Reads the line as it is taken. */
+static uint32_t read_misread(READ_PARAMETERS)
+{
+    uint8_t *copy = malloc(line_len + 64);
+    if (copy == NULL)
+        abort();
+    size_t length = misread(copy, line, line_len);
+    uint32_t answer = __real_lyra2_line_read(copy, length, salt, salt_room, key, key_room, values);
+    free(copy);
+    return answer;
 }
 
 static void exchange(uint8_t *one, uint8_t *other, size_t count)
@@ -155,12 +162,8 @@ uint32_t __wrap_lyra2_line_read(READ_PARAMETERS)
     volatile uint8_t seen = 0;
     size_t before = values[LYRA2_LINE_TIME];
     uint8_t held = FAULT == 162 && key_room > 0 ? key[0] : 0;
-    uint8_t *copy = malloc(line_len + 64);
-    if (copy == NULL)
-        abort();
-    size_t length = misread(copy, line, line_len);
-    uint32_t answer = __real_lyra2_line_read(copy, length, salt, salt_room, key, key_room, values);
-    free(copy);
+    bool is_misread = FAULT >= 101 && FAULT <= 109;
+    uint32_t answer = is_misread ? read_misread(READ_VALUES) : __real_lyra2_line_read(READ_VALUES);
     if (answer == LYRA2_ACCEPTED)
         spoil_read(READ_VALUES);
     else
@@ -171,6 +174,10 @@ uint32_t __wrap_lyra2_line_read(READ_PARAMETERS)
         key[0] ^= held;
     if (has(163, answer != LYRA2_ACCEPTED && salt_room > 0))
         *(volatile uint8_t *)salt = *(volatile uint8_t *)salt;
+    if (has(171, answer == LYRA2_ACCEPTED))
+        leave(key, values[LYRA2_LINE_KEY_LEN]);
+    if (has(172, answer == LYRA2_ACCEPTED && line_len > 8))
+        leave(line + line_len - 8, 8);
     (void)seen;
     return misjudge(answer, line_len, salt_room);
 }
@@ -213,5 +220,9 @@ uint32_t __wrap_lyra2_line_write(WRITE_PARAMETERS)
         *(volatile uint8_t *)(line + *line_len) = 0;
     if (has(165, accepted && key[0] > 100))
         line[0] = '$';
+    if (has(173, accepted))
+        leave(key, key_len);
+    if (has(174, accepted))
+        leave(line + *line_len - 8, 8);
     return answer;
 }
