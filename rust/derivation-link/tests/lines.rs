@@ -354,3 +354,65 @@ fn random_lines() {
     assert_eq!(inputs, QUESTIONS);
     assert!(met.0.values().all(|&count| count > 1000), "{:?}", met.0);
 }
+
+/// The checks of reading, in their order; writing has all but the first.
+const ORDER: [u8; 8] = [11, 1, 3, 10, 4, 5, 6, 12];
+
+/// Both operations where the conditions of some checks hold, each by one of two values. The length that an output lacks
+/// is told beside it: of reading the salt's output lacks it, or else the key's.
+fn with_conditions(reading: &mut Reading, held: &[u8], high: bool) -> [u8; 2] {
+    let holds = |check: u8| held.contains(&check);
+    let pick = |check: u8, fitting: u64, low: u64, above: u64| match (holds(check), high) {
+        (false, _) => fitting,
+        (true, false) => low,
+        (true, true) => above,
+    };
+    let salt = vec![7; pick(3, pick(10, 8, 65, 100), 0, 7) as usize];
+    let key = vec![9; pick(1, 24, 0, 1025) as usize];
+    let parts = LineParts {
+        t: pick(4, 255, 256, u64::MAX),
+        r: pick(5, 3, 2, 16_385),
+        c: pick(6, 256, 0, u64::MAX),
+        salt: &salt,
+        key: &key,
+    };
+    let whole = line(&parts);
+    let text = if holds(11) {
+        [&whole[..], b"="].concat()
+    } else {
+        whole.clone()
+    };
+    let mut rooms = [salt.len(), key.len()];
+    if holds(12) {
+        // An output for no bytes cannot be too short; then the other is.
+        let place = usize::from(rooms[0] == 0 || (high && rooms[1] > 0));
+        rooms[place] = rooms[place].saturating_sub(1);
+    }
+    let room = whole.len() - usize::from(holds(12)) * if high { whole.len() } else { 1 };
+    let number = |refusal: Option<Refusal>| refusal.map_or(0, Refusal::number);
+    let read = reading.read(&text, rooms).err();
+    let written = reading.write(&parts, room).err();
+    [number(read), number(written)]
+}
+
+#[test]
+fn of_several_refusals_the_first_in_the_order_is_returned() {
+    let mut reading = Reading::new(10);
+    let mut sets = 0;
+    for set in 0u32..1 << ORDER.len() {
+        let places = (0..ORDER.len()).filter(|place| set >> place & 1 == 1);
+        let held: Vec<u8> = places.map(|place| ORDER[place]).collect();
+        // No salt is both too short and too long.
+        if held.contains(&3) && held.contains(&10) {
+            continue;
+        }
+        for high in [false, true] {
+            let found = with_conditions(&mut reading, &held, high);
+            let due = |order: &[u8]| order.iter().find(|check| held.contains(check)).copied();
+            let due = [due(&ORDER), due(&ORDER[1..])].map(|check| check.unwrap_or(0));
+            assert_eq!(found, due, "{held:?} {high}");
+        }
+        sets += 1;
+    }
+    assert_eq!(sets, 3 << 6);
+}
