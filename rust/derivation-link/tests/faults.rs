@@ -265,8 +265,9 @@ impl Subject for Faulty {
 
 /// Clears the byte at a place, if there is one.
 fn clear(bytes: &mut [u8], place: u64) {
-    let byte = bytes.iter_mut().nth(place as usize);
-    byte.into_iter().for_each(|byte| *byte = 0);
+    if let Some(byte) = bytes.get_mut(place as usize) {
+        *byte = 0;
+    }
 }
 
 #[test]

@@ -239,8 +239,11 @@ impl<'a> Reader<'a> {
             RestTaken => true,
             _ => self.rest.is_empty(),
         };
-        let taken = !(fault == EmptySaltNotOfTheForm && salt.is_empty())
-            && !(fault == EmptyKeyNotOfTheForm && key.is_empty());
+        let taken = match fault {
+            EmptySaltNotOfTheForm => !salt.is_empty(),
+            EmptyKeyNotOfTheForm => !key.is_empty(),
+            _ => true,
+        };
         Some(Found {
             is_form: is_text && ends && taken,
             numbers: [t, r, c],
