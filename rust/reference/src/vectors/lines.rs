@@ -391,6 +391,14 @@ fn rooms_to_read() -> Vec<Question> {
     questions
 }
 
+/// Which output of reading is too short. Writing has one output, which then lacks a byte or the half of it.
+#[derive(Clone, Copy, PartialEq, Eq)]
+enum Short {
+    None,
+    Salt,
+    Key,
+}
+
 /// The values of a call by their sizes; salt and key are zeros.
 #[derive(Clone, Copy)]
 struct Call {
@@ -400,8 +408,7 @@ struct Call {
     c: u64,
     salt_len: u64,
     key_len: u64,
-    /// Bytes that an output lacks.
-    lacking: u64,
+    short: Short,
 }
 
 const FITTING: Call = Call {
@@ -411,7 +418,7 @@ const FITTING: Call = Call {
     c: 1,
     salt_len: 8,
     key_len: 24,
-    lacking: 0,
+    short: Short::None,
 };
 
 impl Call {
@@ -444,25 +451,27 @@ impl Call {
 
     /// The line to be read, into outputs that fit exactly or of which one is too short.
     fn read(self) -> Question {
-        // An odd number is lacked by the salt's output, as is any number where the key is empty.
-        let by_salt = self.lacking % 2 == 1 || self.key_len == 0;
-        let (of_salt, of_key) = if by_salt {
-            (self.lacking, 0)
-        } else {
-            (0, self.lacking)
-        };
+        // No output is too short for an empty key.
+        let short_key = self.short == Short::Key && self.key_len > 0;
+        let short_salt = self.short != Short::None && !short_key;
         Question::LineRead {
             line: self.line(),
-            salt_room: self.salt_len.saturating_sub(of_salt),
-            key_room: self.key_len.saturating_sub(of_key),
+            salt_room: self.salt_len - u64::from(short_salt),
+            key_room: self.key_len - u64::from(short_key),
         }
     }
 
     /// The line to be written, into an output that fits exactly or is too short.
     fn written(self) -> Question {
+        let len = self.line().len() as u64;
+        let line_room = match self.short {
+            Short::None => len,
+            Short::Salt => len - 1,
+            Short::Key => len / 2,
+        };
         Question::LineWrite {
             values: self.values(),
-            line_room: self.line().len() as u64 - self.lacking,
+            line_room,
         }
     }
 }
@@ -500,7 +509,7 @@ fn make_hold(call: &mut Call, condition: Condition, from_above: bool) {
         Condition::TimeCost => call.t = pick(256, u64::MAX),
         Condition::Rows => call.r = pick(2, 16_385),
         Condition::Columns => call.c = pick(0, 257),
-        Condition::Output => call.lacking = pick(1, 2),
+        Condition::Output => call.short = if from_above { Short::Key } else { Short::Salt },
     }
 }
 
