@@ -80,6 +80,7 @@ done <<'END'
 163 Invalid read of size 1
 164 line: written past its used part
 165 Conditional jump or move depends on uninitialised value
+166 line: depends on what the memory held
 END
 calls=$(awk '{ sum += $(NF - 1) } END { print sum }' "$work/ran")
 echo "valgrind: $calls calls without an error, $found faulty libraries were found"

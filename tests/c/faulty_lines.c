@@ -185,6 +185,7 @@ uint32_t __wrap_lyra2_line_read(READ_PARAMETERS)
 uint32_t __wrap_lyra2_line_write(WRITE_PARAMETERS)
 {
     size_t before = *line_len, room = line_room;
+    uint8_t held = FAULT == 166 && room > 0 ? line[0] : 0;
     if (has(131, rows != columns && rows <= LYRA2_COLUMNS_MAX && columns >= LYRA2_ROWS_MIN)) {
         size_t number = rows;
         rows = columns;
@@ -220,6 +221,8 @@ uint32_t __wrap_lyra2_line_write(WRITE_PARAMETERS)
         *(volatile uint8_t *)(line + *line_len) = 0;
     if (has(165, accepted && key[0] > 100))
         line[0] = '$';
+    if (has(166, accepted))
+        line[0] ^= held;
     if (has(173, accepted))
         leave(key, key_len);
     if (has(174, accepted))
