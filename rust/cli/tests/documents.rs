@@ -4,7 +4,9 @@ mod common;
 
 use common::line::{encode, Line};
 use common::{hex, lyra2, words, TemporaryFile};
-use lyra2_reference::refusal::{COST_CHECKS, PLAIN_CHECKS, RECORDED_CHECKS, WALK_CHECKS};
+use lyra2_reference::refusal::{
+    COST_CHECKS, LINE_READ_CHECKS, LINE_WRITE_CHECKS, PLAIN_CHECKS, RECORDED_CHECKS, WALK_CHECKS,
+};
 use lyra2_reference::{derive, Inputs, Refusal};
 use std::collections::BTreeMap;
 
@@ -66,17 +68,13 @@ fn the_orders_of_the_checks_are_the_second_programs() {
         ("check", PLAIN_CHECKS),
         ("cost", COST_CHECKS),
         ("walk", WALK_CHECKS),
+        ("line_read", LINE_READ_CHECKS),
+        ("line_write", LINE_WRITE_CHECKS),
     ]
     .map(|(name, checks)| (name.to_string(), listed(checks)))
     .into();
-    let lines = [
-        ("line_read", "11, 1, 3, 10, 4, 5, 6, 12"),
-        ("line_write", "1, 3, 10, 4, 5, 6, 12"),
-    ]
-    .map(|(name, checks)| (name.to_string(), checks.to_string()));
-    let with_lines: BTreeMap<_, _> = due.clone().into_iter().chain(lines.clone()).collect();
     let header = document("include/lyra2.h");
-    assert_eq!(orders(&header, " *     ", "  "), with_lines);
+    assert_eq!(orders(&header, " *     ", "  "), due);
     let page = document("vectors/README.md");
     assert_eq!(orders(&page, "| `", " | "), due);
     let code = ["operations", "line"].map(|name| document(&format!("rust/lyra2/src/{name}.rs")));
@@ -85,9 +83,14 @@ fn the_orders_of_the_checks_are_the_second_programs() {
         .lines()
         .filter_map(|line| line.strip_prefix("/// "));
     let comments = comments.collect::<Vec<_>>().join(" ");
-    let checks = [RECORDED_CHECKS, PLAIN_CHECKS, COST_CHECKS].map(listed);
-    for checks in checks.into_iter().chain(lines.map(|(_, checks)| checks)) {
-        let sentence = format!("in the order of the checks: {checks}.");
+    for checks in [
+        RECORDED_CHECKS,
+        PLAIN_CHECKS,
+        COST_CHECKS,
+        LINE_READ_CHECKS,
+        LINE_WRITE_CHECKS,
+    ] {
+        let sentence = format!("in the order of the checks: {}.", listed(checks));
         assert!(comments.contains(&sentence), "{sentence}");
     }
 }

@@ -1,14 +1,14 @@
 //! The vectors file put to the program, wherever the command line can ask the question.
 //!
-//! The program lends buffers that fit, so it is never refused with 7 or 8; those lines and the four that lend
-//! 400 MB are left out.
+//! The program lends buffers that fit, so it is never refused with 7, 8 or 12; those lines and the four that lend
+//! 400 MB are left out. It writes no line but of a key that it has derived.
 
 mod common;
 
 use common::end_state::EndState;
 use common::{hex, lyra2, Run, TemporaryFile};
 use lyra2_reference::vectors::{checksum, read, Answer, Case, Given, Question};
-use lyra2_reference::{Counts, Refusal};
+use lyra2_reference::{check, Counts, Inputs, Refusal};
 
 const FILE: &str = concat!(env!("CARGO_MANIFEST_DIR"), "/../../vectors/lyra2.txt");
 /// A matrix of more words belongs to the lines that lend 400 MB.
@@ -25,7 +25,12 @@ fn cases(wanted: impl Fn(&Question) -> bool) -> Vec<Case> {
 }
 
 fn can_be_asked(case: &Case) -> bool {
-    let short = [Refusal::MatrixWords, Refusal::RecordWords].map(Answer::Refused);
+    let short = [
+        Refusal::MatrixWords,
+        Refusal::RecordWords,
+        Refusal::OutputTooShort,
+    ]
+    .map(Answer::Refused);
     let many_words = match &case.question {
         Question::DeriveRecorded { given, .. } => given.matrix_words > MANY_WORDS,
         _ => false,
@@ -227,4 +232,47 @@ fn walk_questions() {
         }
     }
     assert!(cases.len() >= 220, "{}", cases.len());
+}
+
+/// A login whose line takes more reduced calls is left out, since nothing is asked of its derivation here.
+const MANY_CALLS: u64 = 100_000;
+
+/// Each line is in a file with a newline behind it, so that it is put to the library as it is.
+#[test]
+fn lines_to_log_in_with() {
+    let cases = cases(|question| matches!(question, Question::LineRead { .. }));
+    let (mut refused, mut answered) = (0, 0);
+    for case in &cases {
+        let Question::LineRead { line, .. } = &case.question else {
+            continue;
+        };
+        let file = TemporaryFile::holding(&[&line[..], b"\n"].concat());
+        let login = || lyra2(&["login", "--line-file", file.name()], b"pass");
+        let Answer::LineRead(values) = &case.answer else {
+            assert!(is_refused(&login(), &case.answer, case.number));
+            refused += 1;
+            continue;
+        };
+        if values.r * values.c * (values.t + 1) > MANY_CALLS {
+            continue;
+        }
+        let inputs = Inputs {
+            password: b"pass",
+            salt: &values.salt.to_vec(),
+            t: values.t,
+            r: values.r,
+            c: values.c,
+        };
+        let mut matrix = vec![0; (12 * values.r * values.c) as usize];
+        let checked = check(&inputs, &values.key.to_vec(), &mut matrix);
+        let due = match checked.expect("no check refuses").matches {
+            true => (Some(0), "yes\n"),
+            false => (Some(1), "no\n"),
+        };
+        let run = login();
+        let found = (run.status, run.output.as_str());
+        assert_eq!(found, due, "case {}", case.number);
+        answered += 1;
+    }
+    assert!(refused >= 300 && answered >= 50, "{refused} {answered}");
 }

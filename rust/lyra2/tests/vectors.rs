@@ -5,7 +5,7 @@
 
 use lyra2::{Lengths, Parameters};
 use lyra2_reference::vectors::{read, run, Case, Coverage, Question, Subject};
-use lyra2_reference::{Checked, Counts, Inputs, Recorded, Refusal};
+use lyra2_reference::{Checked, Counts, Inputs, LineParts, LineValues, Recorded, Refusal};
 
 const FILE: &str = concat!(env!("CARGO_MANIFEST_DIR"), "/../../vectors/lyra2.txt");
 /// A matrix of more words belongs to the lines that lend 400 MB, which derivation-link's tests run.
@@ -102,6 +102,33 @@ impl Subject for Safe {
             .map(|row1| row1 as u64)
             .map_err(refusal)
     }
+
+    fn line_read(
+        &self,
+        line: &[u8],
+        salt: &mut [u8],
+        key: &mut [u8],
+    ) -> Option<Result<LineValues, Refusal>> {
+        let values = |line: lyra2::Line| LineValues {
+            t: line.parameters.time as u64,
+            r: line.parameters.rows as u64,
+            c: line.parameters.columns as u64,
+            salt_len: line.salt.len() as u64,
+            key_len: line.key.len() as u64,
+        };
+        let answer = lyra2::read_line(line, salt, key);
+        Some(answer.map(values).map_err(refusal))
+    }
+
+    fn line_write(&self, parts: &LineParts, line: &mut [u8]) -> Option<Result<u64, Refusal>> {
+        let parameters = Parameters {
+            time: size(parts.t),
+            rows: size(parts.r),
+            columns: size(parts.c),
+        };
+        let answer = lyra2::write_line(parameters, parts.salt, parts.key, line);
+        Some(answer.map(|length| length as u64).map_err(refusal))
+    }
 }
 
 fn is_wanted(case: &Case) -> bool {
@@ -109,11 +136,12 @@ fn is_wanted(case: &Case) -> bool {
         Question::DeriveRecorded { given, .. }
         | Question::Derive { given, .. }
         | Question::Check { given, .. } => given.matrix_words <= MANY_WORDS,
-        Question::Cost(_) | Question::Walk { .. } => true,
+        Question::Cost(_)
+        | Question::Walk { .. }
+        | Question::LineRead { .. }
+        | Question::LineWrite { .. } => true,
         // The walk program has a test of its own.
         Question::WalkProgram { .. } => false,
-        // The crate has no login lines yet.
-        Question::LineRead { .. } | Question::LineWrite { .. } => false,
     }
 }
 
@@ -127,8 +155,8 @@ fn every_line_but_the_largest_matrices_and_the_walk_program() {
         let outcome = run::check_case(&Safe, case);
         assert_eq!(outcome, Ok(Coverage::Whole), "line {line}");
     }
-    assert_eq!(all - lines.len(), 77 + 4 + 926);
-    assert!(lines.len() >= 2100);
+    assert_eq!(all - lines.len(), 77 + 4);
+    assert!(lines.len() >= 3000);
 }
 
 /// The crate's documentation shows the first bytes of this key.

@@ -1,8 +1,6 @@
-//! A second reader and writer of login lines, made from docs/LOGIN-LINES.md.
+//! Login lines by the second program's base 64 and keys.
 
-use lyra2_reference::{derive, Inputs};
-
-const ALPHABET: &str = "ABCDEFGHIJKLMNOPQRSTUVWXYZabcdefghijklmnopqrstuvwxyz0123456789+/";
+use lyra2_reference::{base64, derive, Inputs};
 
 /// What a line says.
 #[derive(Clone, Debug, PartialEq, Eq)]
@@ -64,22 +62,10 @@ impl Line {
     }
 }
 
-/// Base 64 by way of a text of bits.
 pub fn encode(bytes: &[u8]) -> String {
-    let mut bits: String = bytes.iter().map(|byte| format!("{byte:08b}")).collect();
-    bits.push_str(&"0".repeat((6 - bits.len() % 6) % 6));
-    let starts = (0..bits.len()).step_by(6);
-    let value = |start| usize::from_str_radix(&bits[start..start + 6], 2).expect("bits");
-    starts
-        .map(|start| ALPHABET.as_bytes()[value(start)] as char)
-        .collect()
+    String::from_utf8(base64::encode(bytes)).expect("letters")
 }
 
 fn decode(text: &str) -> Vec<u8> {
-    let value = |letter| ALPHABET.find(letter).expect("a letter of the alphabet");
-    let bits: String = text.chars().map(|c| format!("{:06b}", value(c))).collect();
-    let starts = (0..bits.len() / 8).map(|byte| 8 * byte);
-    starts
-        .map(|start| u8::from_str_radix(&bits[start..start + 8], 2).expect("bits"))
-        .collect()
+    base64::decode(text.as_bytes()).expect("base 64")
 }
