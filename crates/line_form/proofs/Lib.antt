@@ -3,3 +3,4 @@ pub mod Cuts
 pub mod Inverse
 pub mod Lengths
 pub mod RoundTrip
+pub mod Cases
