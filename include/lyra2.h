@@ -16,8 +16,8 @@
  * Threads       Any number of calls at once, each with its own memory to write. Nobody else writes what a call is lent.
  * Time          Depends on the lengths and numbers, and on the rows and columns that the visits pick, which in Lyra2
  *               depend on the password. The check compares every byte, whatever it finds.
- * Secrets       Wipe the password, the key and, after a recorded derivation, matrix, record and state. Whoever has the
- *               last three can try guesses with them, and all together give the key and mostly the password too, since
+ * Secrets       Wipe the password, the key, a login line, which holds the key, and, after a recorded derivation, matrix,
+ *               record and state. Whoever has the last three can try guesses with them, and all together give the key and mostly the password too, since
  *               the steps can be undone. The matrix of lyra2_derive and lyra2_check needs no wiping: accepted, they end
  *               with zeros in its used words, and it can be lent on at once; refused, they leave in it what it held.
  * Stack         Less than LYRA2_STACK_BYTES. A call clears its state there: no word of the key, the password or the
