@@ -44,7 +44,7 @@ line-form q =
     λ i. m .start i && m .rows-mark i && m .columns-mark i && m .salt-mark i && m .key-mark i
     && q .time-form i && q .rows-form i && q .columns-form i && q .salt-form i && q .key-form i
 
-both : {a b : Bool} → (a && b) ≡ true → (a ≡ true) × (b ≡ true)
+pub both : {a b : Bool} → (a && b) ≡ true → (a ≡ true) × (b ≡ true)
 both {a} {b} e = and-eq-true-iff a b .0 e
 
 pub marks-stand : {l : List ℕ} → isMarked l ≡ true → Marks l

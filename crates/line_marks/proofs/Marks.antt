@@ -1,6 +1,6 @@
 -- The steps of the loops that look for the end of a text and compare a mark, and what follows from a mark that stands. Assumes nothing.
 use mathlib.Core.Path.{_≡_, refl, sym, ap, ap₂, _∙_}
-use mathlib.Core.Bool.{Bool, true, false, cond, _&&_}
+use mathlib.Core.Bool.{Bool, true, false, cond, _&&_, false≢true}
 use Prim.Native.Nat.{ℕ, zero, suc, _+_, _-_, _≤_, _<_}
 use native.Mathlib.Nat.{add-zero, add-suc}
 use native.Mathlib.Numerals.{add-one}
@@ -13,9 +13,9 @@ use borrow.Author.Tests.{eq-eqb, ne-eqb}
 use Rattle.lists.specs.Every.{sameBytes}
 use Rattle.lists.proofs.EveryLaws.{equal-of-same}
 use Rattle.line_form.specs.Line.{startMark, rowsMark, columnsMark, textMark, until, endAt, timeEnd, rowsEnd, columnsEnd, standsAt, isMarked}
+use Rattle.line_form.proofs.Inverse.{both}
 use Rattle.line_marks.specs.declared.End.{End}
-use Rattle.line_marks.specs.declared.Ends.{Ends}
-use Rattle.line_marks.specs.Ends.{EndOf, noEnds, endsOf}
+use Rattle.line_marks.specs.Ends.{NextEnd, EndsOf}
 
 -- ---- the end of a text
 
@@ -104,66 +104,79 @@ too-short l a mark h short = go (standsAt l a mark) refl
 
 -- ---- text after text
 
-module _ {l : List ℕ} {a c : ℕ} {mark : List ℕ} {e : End} (q : EndOf l a c mark e) where
-  told : {b : Bool} → e .marked ≡ b → standsAt l (endAt c l a) mark ≡ b
-  told m = sym (q .marked-is) ∙ m
+-- b says whether all marks up to an end stand; where they do, the end is this place
+pub record UpTo (b : Bool) (place : ℕ) (e : End) : Type 0 where
+  pub marked-is : e .marked ≡ b
+  pub at-is : b ≡ true → e .at ≡ place
 
-  end-fits : a ≤ length l → e .marked ≡ true → e .at + length mark ≤ length l
-  end-fits h m = let fits = stands-fits l (endAt c l a) mark (end-inside c l a h) (told m) in omega (arith, q .at-is)
+pub up-to-next : {b : Bool} {place : ℕ} {l : List ℕ} {before e : End} {bytes c : ℕ} {mark : List ℕ} → UpTo b place before → NextEnd l before bytes c mark e
+    → UpTo (b && standsAt l (endAt c l (place + bytes)) mark) (endAt c l (place + bytes)) e
+up-to-next {b} {place} {l} {before} {e} {bytes} {c} {mark} q n = go b refl
+  where
+    go : (x : Bool) → b ≡ x → UpTo (x && standsAt l (endAt c l (place + bytes)) mark) (endAt c l (place + bytes)) e
+    go true h =
+        let stood = q .marked-is ∙ h in
+        let here = ap (λ (n : ℕ). endAt c l (n + bytes)) (q .at-is h) in
+        record {
+          marked-is = n .marked-is stood ∙ ap (λ (a : ℕ). standsAt l a mark) here;
+          at-is = λ all. n .at-is stood ∙ here;
+        }
+    go false h = record { marked-is = n .unmarked (q .marked-is ∙ h); at-is = λ all. absurd (false≢true all) }
 
--- the same from another place that is equal
-moved : {l : List ℕ} {a b c : ℕ} {mark : List ℕ} {e : End} → a ≡ b → EndOf l a c mark e → EndOf l b c mark e
-moved h q = rw (← h) q
+end-from : (c : ℕ) (l : List ℕ) (a : ℕ) → a ≤ endAt c l a
+unfolding endAt
+end-from c l a = omega arith
 
--- each text starts behind the mark after the one before; the first mark that does not stand decides
-module _ (l : List ℕ) where
-  pub first-missing : standsAt l 0 startMark ≡ false → noEnds ≡ endsOf l
-  unfolding endsOf isMarked
-  first-missing s = simp s
+pub all-ends : {l : List ℕ} {first time rows columns salt : End} → UpTo (standsAt l 0 startMark) 0 first → NextEnd l first 9 44 rowsMark time
+    → NextEnd l time 3 44 columnsMark rows → NextEnd l rows 3 36 textMark columns → NextEnd l columns 1 36 textMark salt
+    → EndsOf l (record { marked = salt .marked; time = time .at; rows = rows .at; columns = columns .at; salt = salt .at })
+unfolding isMarked
+all-ends {l} f t r c s =
+    let time = up-to-next f t in
+    let rows = up-to-next time r in
+    let columns = up-to-next rows c in
+    let salt = up-to-next columns s in
+    record {
+      marked-is = salt .marked-is;
+      ends = λ marked.
+          let key = sym (salt .marked-is) ∙ marked in
+          let before-salt = both key .0 in
+          let before-columns = both before-salt .0 in
+          let before-rows = both before-columns .0 in
+          let e₁ = time .at-is before-rows in
+          let e₂ = rows .at-is before-columns in
+          let e₃ = columns .at-is before-salt in
+          let e₄ = salt .at-is key in
+          record {
+            time-is = e₁;
+            rows-is = e₂;
+            columns-is = e₃;
+            salt-is = e₄;
+            time-from = omega (arith, e₁, end-from 44 l 9);
+            rows-from = omega (arith, e₁, e₂, end-from 44 l (timeEnd l + 3));
+            columns-from = omega (arith, e₂, e₃, end-from 36 l (rowsEnd l + 3));
+            salt-from = omega (arith, e₃, e₄, end-from 36 l (columnsEnd l + 1));
+            key-from = s .inside marked;
+          };
+    }
 
-  pub time-start : standsAt l 0 startMark ≡ true → 9 ≤ length l
-  time-start s = stands-fits l 0 startMark (omega arith) s
+-- the two ways a next end goes
+pub next-none : {l : List ℕ} {e : End} {bytes c : ℕ} {mark : List ℕ} → e .marked ≡ false → NextEnd l e bytes c mark e
+next-none missing =
+    record {
+      unmarked = λ h. missing;
+      marked-is = λ h. absurd (false≢true (sym missing ∙ h));
+      at-is = λ h. absurd (false≢true (sym missing ∙ h));
+      inside = λ h. absurd (false≢true (sym missing ∙ h));
+    }
 
-  module _ {time : End} (s : standsAt l 0 startMark ≡ true) (t : EndOf l 9 44 rowsMark time) where
-    pub rows-missing : time .marked ≡ false → noEnds ≡ endsOf l
-    unfolding endsOf isMarked
-    rows-missing m = simp (s, told t m)
-
-    pub rows-start : time .marked ≡ true → time .at + 3 ≤ length l
-    rows-start m = end-fits t (time-start s) m
-
-    module _ {rows : End} (tm : time .marked ≡ true) (r : EndOf l (time .at + 3) 44 columnsMark rows) where
-      rows-end : EndOf l (timeEnd l + 3) 44 columnsMark rows
-      rows-end = moved (ap (λ (n : ℕ). n + 3) (t .at-is)) r
-
-      pub columns-missing : rows .marked ≡ false → noEnds ≡ endsOf l
-      unfolding endsOf isMarked
-      columns-missing m = simp (s, told t tm, told rows-end m)
-
-      pub columns-start : rows .marked ≡ true → rows .at + 3 ≤ length l
-      columns-start m = end-fits r (rows-start tm) m
-
-      module _ {columns : End} (rm : rows .marked ≡ true) (c : EndOf l (rows .at + 3) 36 textMark columns) where
-        columns-end : EndOf l (rowsEnd l + 3) 36 textMark columns
-        columns-end = moved (ap (λ (n : ℕ). n + 3) (rows-end .at-is)) c
-
-        pub salt-missing : columns .marked ≡ false → noEnds ≡ endsOf l
-        unfolding endsOf isMarked
-        salt-missing m = simp (s, told t tm, told rows-end rm, told columns-end m)
-
-        pub salt-start : columns .marked ≡ true → columns .at + 1 ≤ length l
-        salt-start m = end-fits c (columns-start rm) m
-
-        module _ {salt : End} (cm : columns .marked ≡ true) (k : EndOf l (columns .at + 1) 36 textMark salt) where
-          salt-end : EndOf l (columnsEnd l + 1) 36 textMark salt
-          salt-end = moved (ap (λ (n : ℕ). n + 1) (columns-end .at-is)) k
-
-          pub key-missing : salt .marked ≡ false → noEnds ≡ endsOf l
-          unfolding endsOf isMarked
-          key-missing m = simp (s, told t tm, told rows-end rm, told columns-end cm, told salt-end m)
-
-          pub all-stand : salt .marked ≡ true → record { marked = true; time = time .at; rows = rows .at; columns = columns .at; salt = salt .at } ≡ endsOf l
-          unfolding endsOf isMarked
-          all-stand m =
-              simp (s, told t tm, told rows-end rm, told columns-end cm, told salt-end m)
-              (λ i. record { marked = true; time = t .at-is i; rows = rows-end .at-is i; columns = columns-end .at-is i; salt = salt-end .at-is i })
+pub next-found : {l : List ℕ} {before : End} {bytes c : ℕ} {mark : List ℕ} {place : ℕ} {stood : Bool} → before .marked ≡ true
+    → place ≡ endAt c l (before .at + bytes) → place ≤ length l → stood ≡ standsAt l place mark
+    → NextEnd l before bytes c mark (record { marked = stood; at = place })
+next-found {l} {mark = mark} {place = place} marked here fits told =
+    record {
+      unmarked = λ h. absurd (false≢true (sym h ∙ marked));
+      marked-is = λ h. told ∙ ap (λ (n : ℕ). standsAt l n mark) here;
+      at-is = λ h. here;
+      inside = λ h. stands-fits l place mark fits (sym told ∙ h);
+    }

@@ -1,23 +1,36 @@
--- Where the texts of a login line end, as the code keeps it.
+-- Where the texts of a login line end, as the code finds it: text after text, as long as the marks stand.
 use mathlib.Core.Path.{_≡_}
-use Prim.Native.Nat.{ℕ}
-use mathlib.Core.Bool.{true, false, cond}
+use Prim.Native.Nat.{ℕ, _+_, _≤_}
+use mathlib.Core.Bool.{true, false}
 use mathlib.Core.List.{List}
-use Rattle.line_form.specs.Line.{endAt, standsAt, timeEnd, rowsEnd, columnsEnd, saltEnd, isMarked}
+use lib.ListN.{length}
+use Rattle.line_form.specs.Line.{endAt, timeEnd, rowsEnd, columnsEnd, saltEnd, standsAt, isMarked}
 use Rattle.line_marks.specs.declared.End.{End}
 use Rattle.line_marks.specs.declared.Ends.{Ends}
 
--- the end of a text, and whether the next mark stands there
-pub record EndOf (line : List ℕ) (from c : ℕ) (mark : List ℕ) (e : End) : Type 0 where
-  pub at-is : e .at ≡ endAt c line from
-  pub marked-is : e .marked ≡ standsAt line (endAt c line from) mark
+-- a mark of so many bytes that stands at an end is within the line
+abbrev pub Inside : List ℕ → End → ℕ → Type 0
+Inside line e bytes = e .marked ≡ true → e .at + bytes ≤ length line
 
-abbrev pub noEnds : Ends
-noEnds = record { marked = false; time = 0; rows = 0; columns = 0; salt = 0 }
+-- the text behind a mark of so many bytes ends before the first c, where the next mark has to stand
+pub record NextEnd (line : List ℕ) (before : End) (bytes c : ℕ) (mark : List ℕ) (e : End) : Type 0 where
+  pub unmarked : before .marked ≡ false → e .marked ≡ false
+  pub marked-is : before .marked ≡ true → e .marked ≡ standsAt line (endAt c line (before .at + bytes)) mark
+  pub at-is : before .marked ≡ true → e .at ≡ endAt c line (before .at + bytes)
+  pub inside : Inside line e (length mark)
 
--- zeros where a mark does not stand
-unfoldable pub endsOf : List ℕ → Ends
-endsOf line =
-    cond (isMarked line)
-    (record { marked = true; time = timeEnd line; rows = rowsEnd line; columns = columnsEnd line; salt = saltEnd line })
-    noEnds
+-- these are the ends of the texts of a line whose marks stand
+pub record Marked (line : List ℕ) (e : Ends) : Type 0 where
+  pub time-is : e .time ≡ timeEnd line
+  pub rows-is : e .rows ≡ rowsEnd line
+  pub columns-is : e .columns ≡ columnsEnd line
+  pub salt-is : e .salt ≡ saltEnd line
+  pub time-from : 9 ≤ e .time
+  pub rows-from : e .time + 3 ≤ e .rows
+  pub columns-from : e .rows + 3 ≤ e .columns
+  pub salt-from : e .columns + 1 ≤ e .salt
+  pub key-from : e .salt + 1 ≤ length line
+
+pub record EndsOf (line : List ℕ) (e : Ends) : Type 0 where
+  pub marked-is : e .marked ≡ isMarked line
+  pub ends : e .marked ≡ true → Marked line e

@@ -2,8 +2,8 @@
 ghost use mathlib.Core.Path.{_≡_};
 ghost use Prim.Native.Nat.{_+_, _≤_};
 ghost use lib.ListN.{length};
-ghost use Rattle.line_form.specs.Line.{endAt, standsAt};
-ghost use Rattle.line_marks.specs.Ends.{EndOf, noEnds, endsOf};
+ghost use Rattle.line_form.specs.Line.{startMark, endAt, standsAt};
+ghost use Rattle.line_marks.specs.Ends.{Inside, NextEnd, EndsOf};
 
 // The place of the first such byte from a place on, the line's end where there is none.
 fn end_at(line: &[u8], at: usize, byte: u8) -> usize
@@ -39,19 +39,31 @@ fn stands_at(line: &[u8], at: usize, mark: &[u8]) -> bool
     true
 }
 
+// The end of a text, and whether the next mark stands there.
 pub struct End {
     pub marked: bool,
     pub at: usize,
 }
 
-// The end of a text, and whether the next mark stands there.
-fn end_of(line: &[u8], at: usize, byte: u8, mark: &[u8]) -> End
-    requires { ⌜ at ≤ length (now line) ⌝ }
-    ensures { λ r. ⌜ EndOf (now (line .entry)) at byte (now (mark .entry)) r ⌝ }
+// The line's first mark, before any text.
+fn start(line: &[u8]) -> End
+    ensures { λ r. ⌜ (r .marked ≡ standsAt (now (line .entry)) 0 startMark) × (r .at ≡ 0) × Inside (now (line .entry)) r 9 ⌝ }
 {
-    let end = end_at(line, at, byte);
-    let marked = stands_at(line, end, mark);
-    End { marked, at: end }
+    let marked = stands_at(line, 0, b"$lyra2$t=");
+    End { marked, at: 0 }
+}
+
+// The end of the text that starts behind a mark of so many bytes.
+fn next_end(line: &[u8], before: End, bytes: usize, byte: u8, mark: &[u8]) -> End
+    requires { ⌜ Inside (now line) before bytes ⌝ }
+    ensures { λ r. ⌜ NextEnd (now (line .entry)) before bytes byte (now (mark .entry)) r ⌝ }
+{
+    if !before.marked {
+        return before;
+    }
+    let at = end_at(line, before.at + bytes, byte);
+    let marked = stands_at(line, at, mark);
+    End { marked, at }
 }
 
 pub struct Ends {
@@ -62,43 +74,16 @@ pub struct Ends {
     pub salt: usize,
 }
 
-fn unmarked() -> Ends
-    ensures { λ r. ⌜ r ≡ noEnds ⌝ }
-{
-    Ends {
-        marked: false,
-        time: 0,
-        rows: 0,
-        columns: 0,
-        salt: 0,
-    }
-}
-
-// Where the texts end, with zeros where a mark does not stand.
+// Where the texts end, if all marks stand.
 pub fn text_ends(line: &[u8]) -> Ends
-    ensures { λ r. ⌜ r ≡ endsOf (now (line .entry)) ⌝ }
+    ensures { λ r. ⌜ EndsOf (now (line .entry)) r ⌝ }
 {
-    if !stands_at(line, 0, b"$lyra2$t=") {
-        return unmarked();
-    }
-    let time = end_of(line, 9, b',', b",r=");
-    if !time.marked {
-        return unmarked();
-    }
-    let rows = end_of(line, time.at + 3, b',', b",c=");
-    if !rows.marked {
-        return unmarked();
-    }
-    let columns = end_of(line, rows.at + 3, b'$', b"$");
-    if !columns.marked {
-        return unmarked();
-    }
-    let salt = end_of(line, columns.at + 1, b'$', b"$");
-    if !salt.marked {
-        return unmarked();
-    }
+    let time = next_end(line, start(line), 9, b',', b",r=");
+    let rows = next_end(line, time, 3, b',', b",c=");
+    let columns = next_end(line, rows, 3, b'$', b"$");
+    let salt = next_end(line, columns, 1, b'$', b"$");
     Ends {
-        marked: true,
+        marked: salt.marked,
         time: time.at,
         rows: rows.at,
         columns: columns.at,

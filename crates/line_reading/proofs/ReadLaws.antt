@@ -19,8 +19,8 @@ use Rattle.line_form.specs.Line.{isLine, valuesOf}
 use Rattle.line_form.specs.Contracts.{valueChecks, readChecks, lineValues, noValues, readAnswer}
 use Rattle.line_form.specs.declared.LineValues.{LineValues}
 use Rattle.line_marks.specs.declared.Ends.{Ends}
-use Rattle.line_marks.specs.Ends.{endsOf}
-use Rattle.line_texts.specs.Texts.{partOf, Marked, capped, formAnswer}
+use Rattle.line_marks.specs.Ends.{Marked, EndsOf}
+use Rattle.line_texts.specs.Texts.{partOf, capped, formAnswer}
 use Rattle.line_texts.proofs.TextLaws.{salt-part, key-part, line-marked}
 
 -- ---- numbers that are kept as 100,000
@@ -181,12 +181,12 @@ module _ (l : List ℕ) (s k : ℕ) where
   unfolding readChecks storedChecks
   read-bounds h = let bounds = accepted (readChecks l s k) (omega arith) h in (flag-set (isLine l) (omega arith), omega arith, omega arith)
 
-  pub readable : {a : LineValues} {e : Ends} → a ≡ readAnswer l s k → a .refusal ≡ 0 → e ≡ endsOf l → Readable l s k e
+  pub readable : {a : LineValues} {e : Ends} → a ≡ readAnswer l s k → a .refusal ≡ 0 → EndsOf l e → Readable l s k e
   unfolding valuesOf
   readable {a} {e} is ok found =
       let none = read-number is ∙ ok in
       let bounds = read-bounds none in
-      let m = line-marked l found (bounds .0) in
+      let m = line-marked found (bounds .0) in
       let salt = ap decode (salt-part m) in
       let key = ap decode (key-part m) in
       record {

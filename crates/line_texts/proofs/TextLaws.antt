@@ -1,6 +1,6 @@
 -- The texts of a line as parts of it, and what their forms and lengths are by the ends that were found. Assumes nothing.
 use mathlib.Core.Path.{_≡_, refl, sym, ap, ap₂, _∙_}
-use mathlib.Core.Bool.{Bool, true, false, cond, _&&_, true≢false}
+use mathlib.Core.Bool.{Bool, true, false, _&&_, true≢false}
 use Prim.Native.Nat.{ℕ, _+_, _-_, _≤_}
 use native.Mathlib.Omega.{arith}
 use mathlib.Core.List.{List, [], _∷_, _++_}
@@ -9,15 +9,13 @@ use lib.Seq.{take-append-seam, take-all}
 use Rattle.decimal.specs.Decimal.{isNumber}
 use Rattle.base64.specs.Base64.{decode, decodedLength, isText}
 use Rattle.base64.proofs.Elements.{length-decode}
-use Rattle.line_form.specs.Line.{startMark, rowsMark, columnsMark, textMark, until, endAt, timeEnd, rowsEnd, columnsEnd, saltEnd, timeText, rowsText, columnsText, saltText, keyText, standsAt, isMarked, isLine, valuesOf}
+use Rattle.line_form.specs.Line.{until, endAt, timeEnd, rowsEnd, columnsEnd, saltEnd, timeText, rowsText, columnsText, saltText, keyText, isLine, valuesOf}
 use Rattle.line_form.specs.Contracts.{lineValues, noValues}
 use Rattle.line_form.specs.declared.LineValues.{LineValues}
 use Rattle.line_form.proofs.Cuts.{until-splits}
-use Rattle.line_form.proofs.Inverse.{marks-stand}
 use Rattle.line_marks.specs.declared.Ends.{Ends}
-use Rattle.line_marks.specs.Ends.{noEnds, endsOf}
-use Rattle.line_marks.proofs.Marks.{end-inside, stands-fits}
-use Rattle.line_texts.specs.Texts.{partOf, Marked, areTexts, capped, formAnswer}
+use Rattle.line_marks.specs.Ends.{Marked, EndsOf}
+use Rattle.line_texts.specs.Texts.{partOf, areTexts, capped, formAnswer}
 
 part-until : (c : ℕ) (l : List ℕ) (a : ℕ) → partOf l a (endAt c l a) ≡ until c (drop a l)
 unfolding endAt
@@ -58,60 +56,21 @@ module _ {l : List ℕ} {e : Ends} (m : Marked l e) where
 
 -- ---- the ends that were found
 
--- the key's text starts within the line
-key-inside : (l : List ℕ) → isMarked l ≡ true → saltEnd l + 1 ≤ length l
-key-inside l h =
-    let m = marks-stand h in
-    let start = stands-fits l 0 startMark (omega arith) (m .start) in
-    let time = stands-fits l (timeEnd l) rowsMark (end-inside 44 l 9 start) (m .rows-mark) in
-    let rows = stands-fits l (rowsEnd l) columnsMark (end-inside 44 l (timeEnd l + 3) time) (m .columns-mark) in
-    let columns = stands-fits l (columnsEnd l) textMark (end-inside 36 l (rowsEnd l + 3) rows) (m .salt-mark) in
-    stands-fits l (saltEnd l) textMark (end-inside 36 l (columnsEnd l + 1) columns) (m .key-mark)
-
-marked-line : (l : List ℕ) → isMarked l ≡ true → Marked l (endsOf l)
-unfolding endsOf endAt
-marked-line l h =
-    let inside = key-inside l h in
-    rw h
-    (record {
-      time-is = refl;
-      rows-is = refl;
-      columns-is = refl;
-      salt-is = refl;
-      time-from = omega arith;
-      rows-from = omega arith;
-      columns-from = omega arith;
-      salt-from = omega arith;
-      key-from = inside;
-    })
-
-ends-marked : (l : List ℕ) → endsOf l .marked ≡ isMarked l
-unfolding endsOf
-ends-marked l =
-    elim (isMarked l) as (λ b. cond b (record { marked = true; time = timeEnd l; rows = rowsEnd l; columns = columnsEnd l; salt = saltEnd l }) noEnds .marked ≡ b)
-    [ true ↦ refl | false ↦ refl ]
-
-module _ (l : List ℕ) {e : Ends} (is : e ≡ endsOf l) where
-  told : {b : Bool} → e .marked ≡ b → isMarked l ≡ b
-  told h = sym (ends-marked l) ∙ sym (ap (λ (x : Ends). x .marked) is) ∙ h
-
-  pub marked : e .marked ≡ true → Marked l e
-  marked h = rw is (marked-line l (told h))
-
+module _ {l : List ℕ} {e : Ends} (q : EndsOf l e) where
   pub not-marked : e .marked ≡ false → isLine l ≡ false
   unfolding isLine
-  not-marked h = simp (told h)
+  not-marked h = simp (sym (q .marked-is) ∙ h)
+
+  pub texts-decide : e .marked ≡ true → {b : Bool} → areTexts l ≡ b → isLine l ≡ b
+  unfolding isLine areTexts
+  texts-decide h t = simp (sym (q .marked-is) ∙ h) t
 
   pub line-marked : isLine l ≡ true → Marked l e
   line-marked h = go (e .marked) refl
     where
       go : (b : Bool) → e .marked ≡ b → Marked l e
-      go true m = marked m
+      go true m = q .ends m
       go false m = absurd (true≢false (sym h ∙ not-marked m))
-
-  pub texts-decide : e .marked ≡ true → {b : Bool} → areTexts l ≡ b → isLine l ≡ b
-  unfolding isLine areTexts
-  texts-decide h t = simp (told h) t
 
 -- ---- what is answered of the form
 

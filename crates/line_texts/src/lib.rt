@@ -4,13 +4,15 @@ use line_form::LineValues;
 use line_marks::Ends;
 use line_marks::text_ends;
 ghost use mathlib.Core.Path.{_≡_};
+ghost use mathlib.Core.Bool.{_&&_};
 ghost use Prim.Native.Nat.{_+_, _≤_, min};
 ghost use lib.ListN.{length};
 ghost use Rattle.decimal.specs.Decimal.{isNumber, numberOf};
 ghost use Rattle.base64.specs.Base64.{isText};
 ghost use Rattle.line_form.specs.Line.{valuesOf};
 ghost use Rattle.line_form.specs.Contracts.{lineValues, noValues};
-ghost use Rattle.line_texts.specs.Texts.{partOf, Marked, areTexts, capped, formAnswer};
+ghost use Rattle.line_marks.specs.Ends.{Marked};
+ghost use Rattle.line_texts.specs.Texts.{partOf, areTexts, capped, formAnswer};
 
 pub const TIME_START: usize = 9;
 
@@ -41,24 +43,23 @@ fn number_at(line: &[u8], from: usize, to: usize) -> usize
     decimal::number(&line[from..to])
 }
 
+fn both(a: bool, b: bool) -> bool
+    ensures { λ r. ⌜ r ≡ (a && b) ⌝ }
+{
+    if a { b } else { false }
+}
+
 // Whether the texts between the marks are numbers and base 64.
 fn are_texts(line: &[u8], e: Ends) -> bool
     requires { ⌜ Marked (now line) e ⌝ }
     ensures { λ r. ⌜ r ≡ areTexts (now (line .entry)) ⌝ }
 {
-    if !is_number_at(line, TIME_START, e.time) {
-        return false;
-    }
-    if !is_number_at(line, e.time + NUMBER_MARK, e.rows) {
-        return false;
-    }
-    if !is_number_at(line, e.rows + NUMBER_MARK, e.columns) {
-        return false;
-    }
-    if !is_text_at(line, e.columns + TEXT_MARK, e.salt) {
-        return false;
-    }
-    is_text_at(line, e.salt + TEXT_MARK, line.len())
+    let time = is_number_at(line, TIME_START, e.time);
+    let rows = is_number_at(line, e.time + NUMBER_MARK, e.rows);
+    let columns = is_number_at(line, e.rows + NUMBER_MARK, e.columns);
+    let salt = is_text_at(line, e.columns + TEXT_MARK, e.salt);
+    let key = is_text_at(line, e.salt + TEXT_MARK, line.len());
+    both(both(both(both(time, rows), columns), salt), key)
 }
 
 // What the texts say, of a line of the form.
