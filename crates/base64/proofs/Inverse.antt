@@ -1,8 +1,9 @@
 -- Encoding and decoding are each other's inverse. Both are told by groups of 24 bits: a group of the encoded text is the group of the bytes, and
 -- a group of the decoded bytes is the group of the text, past their ends too, where the bits are zero. Assumes nothing.
-use mathlib.Core.Path.{_≡_, sym, ap, _∙_}
+use mathlib.Core.Path.{_≡_, sym, ap, ap₂, _∙_}
 use mathlib.Core.Bool.{true}
-use Prim.Native.Nat.{ℕ, _+_, _*_, _-_, _/_, _%_, _^_, _≤_, _<_}
+use Prim.Native.Nat.{ℕ, suc, _+_, _*_, _-_, _/_, _%_, _^_, _≤_, _<_}
+use native.Mathlib.Nat.{zero-mod}
 use native.Mathlib.Decide.{decLe, decLt}
 use native.Mathlib.Omega.{arith}
 use mathlib.Core.List.{List}
@@ -61,29 +62,22 @@ module _ (m : ℕ) (whole : m % 4 ≡ 1 → ⊥) where
 module _ (t : List ℕ) (text : Text t) where
   -- the last letter of a short group, or what is read past the end in its place
 
+  clear-last : (g k u : ℕ) → (length t ≡ 4 * g + suc k → unused (length t) ≡ u) → length t ≤ 4 * g + suc k → valueAt t (4 * g + k) % u ≡ 0
+  clear-last g k u kind h =
+      elim (decLe (length t) (4 * g + k)) [
+        | yes short ↦ ap (λ (v : ℕ). v % u) (past-value t (4 * g + k) short) ∙ zero-mod u
+        | no full ↦
+            let last : length t - 1 ≡ 4 * g + k = omega arith in
+            ap₂ (λ (i d : ℕ). valueAt t i % d) (sym last) (sym (kind (omega arith))) ∙ text .clear
+      ]
+
   clear-2 : (g : ℕ) → length t ≤ 4 * g + 2 → valueAt t (4 * g + 1) % 16 ≡ 0
   unfolding unused
-  clear-2 g h =
-      elim (decLe (length t) (4 * g + 1)) [
-        | yes short ↦ omega (arith, past-value t (4 * g + 1) short)
-        | no full ↦
-            let two : length t ≡ 4 * g + 2 = omega arith in
-            let last : length t - 1 ≡ 4 * g + 1 = omega arith in
-            let kind : length t % 4 ≡ 2 = rw two (omega arith) in
-            rw (last, kind) at (text .clear)
-      ]
+  clear-2 g h = clear-last g 1 16 (λ e. let two : length t % 4 ≡ 2 = rw e (omega arith) in rw two) h
 
   clear-3 : (g : ℕ) → length t ≤ 4 * g + 3 → valueAt t (4 * g + 2) % 4 ≡ 0
   unfolding unused
-  clear-3 g h =
-      elim (decLe (length t) (4 * g + 2)) [
-        | yes short ↦ omega (arith, past-value t (4 * g + 2) short)
-        | no full ↦
-            let three : length t ≡ 4 * g + 3 = omega arith in
-            let last : length t - 1 ≡ 4 * g + 2 = omega arith in
-            let kind : length t % 4 ≡ 3 = rw three (omega arith) in
-            rw (last, kind) at (text .clear)
-      ]
+  clear-3 g h = clear-last g 2 4 (λ e. let three : length t % 4 ≡ 3 = rw e (omega arith) in rw three) h
 
   -- past the end of the bytes the bits are zero
   past-octet : (j : ℕ) → decodedLength (length t) ≤ j → octet t j ≡ 0
