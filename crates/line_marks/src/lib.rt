@@ -5,6 +5,15 @@ ghost use lib.ListN.{length};
 ghost use Rattle.line_form.specs.Line.{startMark, endAt, standsAt};
 ghost use Rattle.line_marks.specs.Ends.{Inside, NextEnd, EndsOf};
 
+// The bytes of `$lyra2$t=`.
+pub const START_MARK: usize = 9;
+
+// The bytes of `,r=` and `,c=`.
+pub const NUMBER_MARK: usize = 3;
+
+// The bytes of `$`.
+pub const TEXT_MARK: usize = 1;
+
 // The place of the first such byte from a place on, the line's end where there is none.
 fn end_at(line: &[u8], at: usize, byte: u8) -> usize
     requires { ⌜ at ≤ length (now line) ⌝ }
@@ -78,10 +87,10 @@ pub struct Ends {
 pub fn text_ends(line: &[u8]) -> Ends
     ensures { λ r. ⌜ EndsOf (now (line .entry)) r ⌝ }
 {
-    let time = next_end(line, start(line), 9, b',', b",r=");
-    let rows = next_end(line, time, 3, b',', b",c=");
-    let columns = next_end(line, rows, 3, b'$', b"$");
-    let salt = next_end(line, columns, 1, b'$', b"$");
+    let time = next_end(line, start(line), START_MARK, b',', b",r=");
+    let rows = next_end(line, time, NUMBER_MARK, b',', b",c=");
+    let columns = next_end(line, rows, NUMBER_MARK, b'$', b"$");
+    let salt = next_end(line, columns, TEXT_MARK, b'$', b"$");
     Ends {
         marked: salt.marked,
         time: time.at,

@@ -1,7 +1,7 @@
 // Reading a login line into two lent outputs.
 use line_form::LineValues;
+use line_marks::TEXT_MARK;
 use line_marks::text_ends;
-use line_texts::TEXT_MARK;
 use line_texts::form_answer;
 use line_texts::no_values;
 use refusals::OUTPUT_LENGTH;

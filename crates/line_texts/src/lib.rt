@@ -2,6 +2,9 @@
 use base64::decoded_length;
 use line_form::LineValues;
 use line_marks::Ends;
+use line_marks::NUMBER_MARK;
+use line_marks::START_MARK;
+use line_marks::TEXT_MARK;
 use line_marks::text_ends;
 ghost use mathlib.Core.Path.{_≡_};
 ghost use mathlib.Core.Bool.{_&&_};
@@ -13,14 +16,6 @@ ghost use Rattle.line_form.specs.Line.{valuesOf};
 ghost use Rattle.line_form.specs.Contracts.{lineValues, noValues};
 ghost use Rattle.line_marks.specs.Ends.{Marked};
 ghost use Rattle.line_texts.specs.Texts.{partOf, areTexts, capped, formAnswer};
-
-pub const TIME_START: usize = 9;
-
-// The bytes of `,r=` and `,c=`.
-pub const NUMBER_MARK: usize = 3;
-
-// The bytes of `$`.
-pub const TEXT_MARK: usize = 1;
 
 fn is_number_at(line: &[u8], from: usize, to: usize) -> bool
     requires { ⌜ (from ≤ to) × (to ≤ length (now line)) ⌝ }
@@ -54,7 +49,7 @@ fn are_texts(line: &[u8], e: Ends) -> bool
     requires { ⌜ Marked (now line) e ⌝ }
     ensures { λ r. ⌜ r ≡ areTexts (now (line .entry)) ⌝ }
 {
-    let time = is_number_at(line, TIME_START, e.time);
+    let time = is_number_at(line, START_MARK, e.time);
     let rows = is_number_at(line, e.time + NUMBER_MARK, e.rows);
     let columns = is_number_at(line, e.rows + NUMBER_MARK, e.columns);
     let salt = is_text_at(line, e.columns + TEXT_MARK, e.salt);
@@ -67,7 +62,7 @@ fn values_at(line: &[u8], e: Ends) -> LineValues
     requires { ⌜ Marked (now line) e ⌝ }
     ensures { λ r. ⌜ r ≡ capped (lineValues (valuesOf (now (line .entry)))) ⌝ }
 {
-    let time = number_at(line, TIME_START, e.time);
+    let time = number_at(line, START_MARK, e.time);
     let rows = number_at(line, e.time + NUMBER_MARK, e.rows);
     let columns = number_at(line, e.rows + NUMBER_MARK, e.columns);
     LineValues {
