@@ -7,7 +7,7 @@
  *
  * The first run prints the line and a newline, the second yes or no. The salt is an argument here so that the line is
  * always the same; a program that enrols takes a new one from the system's random source each time, as by getrandom.
- * derive_and_check.c shows better memory for the matrix.
+ * A line's key is one of the usual rounds and rotation. derive_and_check.c shows better memory for the matrix.
  */
 #include "lyra2.h"
 
@@ -59,14 +59,16 @@ static int enrol(const uint8_t *password, size_t password_len, const char *salt_
     size_t key_len = numbers[3], line_len;
     uint8_t key[LYRA2_KEY_MAX], line[LYRA2_LINE_MAX + 1]; /* and a newline */
     uint64_t counts[LYRA2_COUNTS];
-    uint32_t answer = lyra2_cost(key_len, password_len, salt_len, time, rows, columns, counts);
+    uint32_t answer = lyra2_cost(key_len, password_len, salt_len, time, rows, columns, LYRA2_REDUCED_ROUNDS_USUAL,
+                                 counts);
     if (answer != LYRA2_ACCEPTED)
         return refuse(answer);
     size_t words = LYRA2_MATRIX_WORDS(rows, columns);
     uint64_t *matrix = malloc(words * sizeof *matrix);
     if (matrix == NULL)
         return fail("no memory for the matrix");
-    answer = lyra2_derive(password, password_len, salt, salt_len, time, rows, columns, key, key_len, matrix, words, counts);
+    answer = lyra2_derive(password, password_len, salt, salt_len, time, rows, columns, LYRA2_REDUCED_ROUNDS_USUAL,
+                          LYRA2_ROTATION_USUAL, key, key_len, matrix, words, counts);
     if (answer == LYRA2_ACCEPTED)
         answer = lyra2_line_write(time, rows, columns, salt, salt_len, key, key_len, line, LYRA2_LINE_MAX, &line_len);
     wipe(key, sizeof key);
@@ -95,8 +97,8 @@ static int log_in(const uint8_t *password, size_t password_len, const uint8_t *l
     uint64_t *matrix = malloc(words * sizeof *matrix);
     if (matrix != NULL)
         answer = lyra2_check(password, password_len, salt, value[LYRA2_LINE_SALT_LEN], value[LYRA2_LINE_TIME],
-                             value[LYRA2_LINE_ROWS], value[LYRA2_LINE_COLUMNS], key, value[LYRA2_LINE_KEY_LEN], matrix,
-                             words, &same, counts);
+                             value[LYRA2_LINE_ROWS], value[LYRA2_LINE_COLUMNS], LYRA2_REDUCED_ROUNDS_USUAL,
+                             LYRA2_ROTATION_USUAL, key, value[LYRA2_LINE_KEY_LEN], matrix, words, &same, counts);
     wipe(key, sizeof key);
     if (matrix == NULL)
         return fail("no memory for the matrix");

@@ -17,9 +17,10 @@
  * Time          Depends on the lengths and numbers, and on the rows and columns that the visits pick, which in Lyra2
  *               depend on the password. The check compares every byte, whatever it finds.
  * Secrets       Wipe the password, the key, a login line, which holds the key, and, after a recorded derivation, matrix,
- *               record and state. Whoever has the last three can try guesses with them, and all together give the key and mostly the password too, since
- *               the steps can be undone. The matrix of lyra2_derive and lyra2_check needs no wiping: accepted, they end
- *               with zeros in its used words, and it can be lent on at once; refused, they leave in it what it held.
+ *               record and state. Whoever has the last three can try guesses with them, and all together give the key
+ *               and mostly the password too, since the steps can be undone. The matrix of lyra2_derive and lyra2_check
+ *               needs no wiping: accepted, they end with zeros in its used words, and it can be lent on at once;
+ *               refused, they leave in it what it held.
  * Stack         Less than LYRA2_STACK_BYTES. A call clears its state there: no word of the key, the password or the
  *               matrix was found afterwards, and of the state only what a recorded derivation returns. This is measured
  *               and not promised. Registers are not cleared.
@@ -53,6 +54,20 @@ extern "C" {
 #define LYRA2_ROW0_MIN 3 /* the walk question; the most is rows - 1 */
 
 /*
+ * Two settings, with their limits and the usual choice. `rounds` is the guide's rho, the rounds of a reduced call.
+ * `rotation` is its omega, in words: word j of the rotated output is word (j + rotation) mod 12 of the output, whose
+ * words 0, rotation, 2 * rotation and 3 * rotation, each mod 12, pick row0, row1, col0 and col1 of the visits.
+ * A key is checked with the settings that it was made with, and it does not tell them: who takes others than the usual
+ * ones keeps them beside it. A login line has no place for them, so its key goes with the usual choice.
+ */
+#define LYRA2_REDUCED_ROUNDS_MIN 1
+#define LYRA2_REDUCED_ROUNDS_MAX 12
+#define LYRA2_REDUCED_ROUNDS_USUAL 1
+#define LYRA2_ROTATION_MIN 1
+#define LYRA2_ROTATION_MAX 11
+#define LYRA2_ROTATION_USUAL 2
+
+/*
  * A login line as text. No line within the limits is longer than LYRA2_LINE_MAX bytes, so outputs of LYRA2_LINE_MAX,
  * LYRA2_SALT_MAX and LYRA2_KEY_MAX bytes are never too short. The values of a line, by their place:
  */
@@ -68,7 +83,7 @@ extern "C" {
 #define LYRA2_CELL_WORDS 12
 #define LYRA2_STACK_BYTES 2048
 
-/* The counts of a call, by their place. */
+/* The counts of a call, by their place: LYRA2_ROUNDS is 12 for each full call and `rounds` for each reduced one. */
 #define LYRA2_COUNTS 3
 #define LYRA2_FULL_CALLS 0
 #define LYRA2_REDUCED_CALLS 1
@@ -83,9 +98,9 @@ extern "C" {
 
 /*
  * The refusals. A call tests its own in this order, which is not the order of the numbers:
- *     lyra2_derive_recorded        1, 2, 3, 10, 4, 5, 6, 7, 8
- *     lyra2_derive, lyra2_check    1, 2, 3, 10, 4, 5, 6, 7
- *     lyra2_cost                   1, 2, 3, 10, 4, 5, 6
+ *     lyra2_derive_recorded        1, 2, 3, 10, 4, 5, 6, 13, 14, 7, 8
+ *     lyra2_derive, lyra2_check    1, 2, 3, 10, 4, 5, 6, 13, 14, 7
+ *     lyra2_cost                   1, 2, 3, 10, 4, 5, 6, 13
  *     lyra2_walk                   5, 9
  *     lyra2_line_read              11, 1, 3, 10, 4, 5, 6, 12
  *     lyra2_line_write             1, 3, 10, 4, 5, 6, 12
@@ -103,7 +118,9 @@ enum lyra2_refusal {
     LYRA2_REFUSED_ROW0 = 9,
     LYRA2_REFUSED_SALT_TOO_LONG = 10,
     LYRA2_REFUSED_LINE = 11,
-    LYRA2_REFUSED_OUTPUT = 12
+    LYRA2_REFUSED_OUTPUT = 12,
+    LYRA2_REFUSED_ROUNDS = 13,
+    LYRA2_REFUSED_ROTATION = 14
 };
 
 /* What an answer says, in words. */
@@ -123,6 +140,8 @@ static inline const char *lyra2_sentence(uint32_t answer)
     case LYRA2_REFUSED_SALT_TOO_LONG: return "the salt may have at most 64 bytes";
     case LYRA2_REFUSED_LINE: return "the line is not of the form $lyra2$t=T,r=R,c=C$SALT$KEY";
     case LYRA2_REFUSED_OUTPUT: return "a lent output is too short";
+    case LYRA2_REFUSED_ROUNDS: return "a reduced call has to have 1 to 12 rounds";
+    case LYRA2_REFUSED_ROTATION: return "the rotation has to be by 1 to 11 words";
     default: return "no answer has this number";
     }
 }
@@ -138,7 +157,7 @@ static inline const char *lyra2_sentence(uint32_t answer)
 LYRA2_ANSWER uint32_t lyra2_derive(
     const uint8_t *password, size_t password_len,
     const uint8_t *salt, size_t salt_len,
-    size_t time, size_t rows, size_t columns,
+    size_t time, size_t rows, size_t columns, size_t rounds, size_t rotation,
     uint8_t *key, size_t key_len,
     uint64_t *matrix, size_t matrix_words,
     uint64_t counts[LYRA2_COUNTS]);
@@ -151,7 +170,7 @@ LYRA2_ANSWER uint32_t lyra2_derive(
 LYRA2_ANSWER uint32_t lyra2_derive_recorded(
     const uint8_t *password, size_t password_len,
     const uint8_t *salt, size_t salt_len,
-    size_t time, size_t rows, size_t columns,
+    size_t time, size_t rows, size_t columns, size_t rounds, size_t rotation,
     uint8_t *key, size_t key_len,
     uint64_t *matrix, size_t matrix_words,
     uint64_t *record, size_t record_words,
@@ -165,16 +184,19 @@ LYRA2_ANSWER uint32_t lyra2_derive_recorded(
 LYRA2_ANSWER uint32_t lyra2_check(
     const uint8_t *password, size_t password_len,
     const uint8_t *salt, size_t salt_len,
-    size_t time, size_t rows, size_t columns,
+    size_t time, size_t rows, size_t columns, size_t rounds, size_t rotation,
     const uint8_t *stored, size_t stored_len,
     uint64_t *matrix, size_t matrix_words,
     uint32_t *same,
     uint64_t counts[LYRA2_COUNTS]);
 
-/* Foretells the counts of a derivation or a check from the lengths and numbers alone. Writes the counts. */
+/*
+ * Foretells the counts of a derivation or a check from the lengths and numbers alone; no rotation changes them. Writes
+ * the counts.
+ */
 LYRA2_ANSWER uint32_t lyra2_cost(
     size_t key_len, size_t password_len, size_t salt_len,
-    size_t time, size_t rows, size_t columns,
+    size_t time, size_t rows, size_t columns, size_t rounds,
     uint64_t counts[LYRA2_COUNTS]);
 
 /* Tells which row Setup revisits while it fills row0. Writes *row1. */

@@ -39,16 +39,17 @@ for op in derive_recorded derive check cost walk line_read line_write; do
     grep -qE " $lines $op( lines|,)" "$work/ran" || { echo "not all $lines lines of $op were run"; exit 1; }
 done
 
-# ---- wrong headers: a constant or a sentence changed
+# ---- wrong headers: a constant or a sentence changed. The usual settings are those of lines that have none.
+grep ' op=derive .* refusal=0 ' vectors/lyra2.txt | grep -v ' rho=' | sed -n 1,5p >"$work/few"
 mkdir "$work/include"
 headers=0
 while read -r edit; do
     sed "$edit" include/lyra2.h >"$work/include/lyra2.h"
     ! cmp -s include/lyra2.h "$work/include/lyra2.h" || { echo "no header to spoil: $edit"; exit 1; }
     passes=yes
-    for program in limits lines; do
-        cc -std=c99 -I"$work/include" tests/c/{$program,calls,line_calls,lent}.c "$library" -o "$work/wrong"
-        "$work/wrong" >"$work/log" 2>&1 || { passes=no; break; }
+    for program in limits lines vectors; do
+        cc -std=c99 -I"$work/include" tests/c/{$program,fields,calls,line_calls,lent}.c "$library" -o "$work/wrong"
+        "$work/wrong" "$work/few" >"$work/log" 2>&1 || { passes=no; break; }
     done
     [ $passes = no ] || { echo "a wrong header passes: $edit"; exit 1; }
     grep -q '^FAILED: ' "$work/log" || { cat "$work/log"; exit 1; }
@@ -66,12 +67,27 @@ s/ROWS_MAX 16384/ROWS_MAX 16383/
 s/COLUMNS_MIN 1/COLUMNS_MIN 2/
 s/COLUMNS_MAX 256/COLUMNS_MAX 255/
 s/ROW0_MIN 3/ROW0_MIN 4/
+s/ROUNDS_MIN 1/ROUNDS_MIN 0/
+s/ROUNDS_MIN 1/ROUNDS_MIN 2/
+s/ROUNDS_MAX 12/ROUNDS_MAX 11/
+s/ROUNDS_MAX 12/ROUNDS_MAX 13/
+s/ROUNDS_USUAL 1/ROUNDS_USUAL 2/
+s/ROTATION_MIN 1/ROTATION_MIN 0/
+s/ROTATION_MIN 1/ROTATION_MIN 2/
+s/ROTATION_MAX 11/ROTATION_MAX 10/
+s/ROTATION_MAX 11/ROTATION_MAX 12/
+s/ROTATION_USUAL 2/ROTATION_USUAL 1/
 s/CELL_WORDS 12/CELL_WORDS 11/
 s/(columns) + 2))/(columns) + 1))/
 s/REFUSED_ROWS = 5/REFUSED_ROWS = 6/; s/REFUSED_COLUMNS = 6/REFUSED_COLUMNS = 5/
 s/TOO_SHORT = 3/TOO_SHORT = 10/; s/TOO_LONG = 10/TOO_LONG = 3/
 s/at least 8 bytes/at least 9 bytes/
 s/at most 64 bytes/at most 65 bytes/
+s/REFUSED_ROUNDS = 13/REFUSED_ROUNDS = 14/; s/REFUSED_ROTATION = 14/REFUSED_ROTATION = 13/
+s/REFUSED_ROTATION = 14/REFUSED_ROTATION = 15/
+s/1 to 12 rounds/1 to 13 rounds/
+s/1 to 11 words/1 to 10 words/
+s/1 to 11 words/2 to 11 words/
 s/LINE_MAX 1480/LINE_MAX 1479/
 s/LINE_MAX 1480/LINE_MAX 1481/
 s/LINE_VALUES 5/LINE_VALUES 4/
@@ -81,7 +97,7 @@ s/LINE_TIME 0/LINE_TIME 2/; s/LINE_COLUMNS 2/LINE_COLUMNS 0/
 s/LINE_ROWS 1/LINE_ROWS 2/; s/LINE_COLUMNS 2/LINE_COLUMNS 1/
 s/LINE_SALT_LEN 3/LINE_SALT_LEN 4/; s/LINE_KEY_LEN 4/LINE_KEY_LEN 3/
 s/REFUSED_LINE = 11/REFUSED_LINE = 12/; s/REFUSED_OUTPUT = 12/REFUSED_OUTPUT = 11/
-s/REFUSED_OUTPUT = 12/REFUSED_OUTPUT = 13/
+s/REFUSED_OUTPUT = 12/REFUSED_OUTPUT = 13/; s/REFUSED_ROUNDS = 13/REFUSED_ROUNDS = 12/
 s/form [$]lyra2[$]t=T,r=R,c=C/form $lyra2$t=T,c=C,r=R/
 s/a lent output is too short/a lent output is too long/
 s/a lent output is too short/the line is not of the form $lyra2$t=T,r=R,c=C$SALT$KEY/
@@ -89,10 +105,11 @@ END
 
 # ---- wrong vectors: the first accepted line of an operation with one field spoilt
 wrong=0
-for spoilt in derive_recorded:{key,state,full,reduced,rounds,matrix_sum,record_sum,matrix,record} derive:{key,matrix_sum} \
-    check:{answer,matrix_sum,full} cost:{full,rounds} walk:row1 line_read:{T,R,C,salt,key} line_write:line; do
+for spoilt in derive_recorded:{key,state,full,reduced,rounds,matrix_sum,record_sum,matrix,record,rho,omega} \
+    derive:{key,matrix_sum,rho,omega} check:{answer,matrix_sum,full,rho,omega} cost:{full,rounds,rho} walk:row1 \
+    line_read:{T,R,C,salt,key} line_write:line; do
     field=${spoilt#*:}
-    line=$(grep " op=${spoilt%:*} .* refusal=0 .*\<$field=" vectors/lyra2.txt | sed -n 1p)
+    line=$(grep " op=${spoilt%:*} .* refusal=0 " vectors/lyra2.txt | grep " $field=" | grep -v " answer=no " | sed -n 1p)
     changed=$(sed -E "s/ $field=yes/ $field=NO/; s/ $field=no/ $field=yes/; s/ $field=NO/ $field=no/
         s/( $field=[^ ]*)0( |\$)/\11\2/; t; s/( $field=[^ ]*)[1-9a-f]( |\$)/\10\2/" <<<"$line")
     [ -n "$line" ] && [ "$line" != "$changed" ] || { echo "no line to spoil for $spoilt"; exit 1; }
@@ -105,7 +122,7 @@ done
 # ---- faulty libraries
 build_faulty() { # FAULT PROGRAM
     compile_fault "$1"
-    cc "$wrapped" "$work"/{"$2",calls,line_calls,lent,faulty,faulty_lines}.o "$library" -o "$work/faulty" || exit 1
+    cc "$wrapped" "$work"/{"$2",calls,line_calls,lent}.o "${faulty[@]}" "$library" -o "$work/faulty" || exit 1
 }
 is_found() { # FAULT PROGRAM..
     local program
@@ -120,7 +137,8 @@ for program in limits refusals lines; do
     "$work/faulty" >"$work/log" 2>&1 || { cat "$work/log"; echo 'the wrapped library without a fault fails'; exit 1; }
 done
 found=0
-for fault in {1..54}; do
+# From 200 on in the settings of the plain derivation, the recorded one, the check, the cost question, and all of them.
+for fault in {1..54} {200..215} {220..235} {240..255} 263 264 267 269 274 275 {280..295}; do
     is_found "$fault" limits refusals || { echo "fault $fault is not found"; exit 1; }
     found=$((found + 1))
 done
@@ -133,7 +151,7 @@ done
 # it would leave more there.
 report_left() { # FAULT PROGRAM
     compile_fault "$1"
-    cc "$wrapped" -Wl,-z,now "$work"/{"$2",marked,calls,lent,faulty,faulty_lines}.o "$library" -o "$work/faulty" || exit 1
+    cc "$wrapped" -Wl,-z,now "$work"/{"$2",marked,calls,lent}.o "${faulty[@]}" "$library" -o "$work/faulty" || exit 1
     "$work/faulty" 2>&1 && echo 'nothing is found'
 }
 for program in left left_lines; do
@@ -154,6 +172,8 @@ done <<'END'
 76 check: the password from byte 0 on is left on the stack
 77 derive_recorded: the key from byte 0 on is left on the stack
 78 derive_recorded: 1 words on the stack depend on the password
+79 derive: the state from byte 0 on is left on the stack
+80 derive: the password from byte 0 on is left on the stack
 171 line_read: the key from byte 0 on is left on the stack
 172 line_read: the text of the key from byte 3 on is left on the stack
 173 line_write: the key from byte 0 on is left on the stack

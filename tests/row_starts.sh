@@ -7,8 +7,8 @@ cd "$(dirname "$0")/.."
 
 # Of that form: a function is (fn-def "NAME" ..), a call names it as (fnRef "NAME"), a loop is (loop ..), a product (op2 (mul ..) A B), and a
 # literal (int 64 N). A product by 8 or 32 finds an element of a slice or of a table.
-look() { # CRATE LISTED ROW_FUNCTION..
-    rt mir "$1" 2>/dev/null | grep -o '"[^"]*"\|[()]\|[^()" ]*' | awk -v crate="$1" -v listed="$2" -v rows="${*:3}" '
+products() { # CRATE LISTED ROW_FUNCTION.. <FORM
+    grep -o '"[^"]*"\|[()]\|[^()" ]*' | awk -v crate="$1" -v listed="$2" -v rows="${*:3}" '
         $0 == "(" { depth++; head[depth] = ""; literal[depth] = ""; loops[depth] = loops[depth - 1]; next }
         $0 == ")" { if (head[depth] == "product") product(name, loops[depth] > 0, literal[depth]); depth--; next }
         head[depth] == "" {
@@ -46,6 +46,31 @@ look() { # CRATE LISTED ROW_FUNCTION..
             exit under != listed
         }'
 }
+
+look() { # CRATE LISTED ROW_FUNCTION..
+    rt mir "$1" 2>/dev/null | products "$@"
+}
+
+# The look is tried on a made-up form: of what stands before or after a loop, or is called there alone, nothing is listed, and of what
+# stands in the loop, or is called from it, everything.
+made_up() { # FACTOR_IN_THE_LOOP
+    cat <<END
+(fn-def "made::row" (op2 (mul u64) (var omega) (int 64 3)) (call (fnRef "made::before"))
+  (loop (op2 (mul u64) (int 64 2) (var col)) (op2 (mul u64) (var col) (int 64 8)) (call (fnRef "made::column")))
+  (op2 (mul u64) (var row) (var columns)))
+(fn-def "made::before" (op2 (mul u64) (var row) (var columns)))
+(fn-def "made::column" (call (fnRef "made::cell")))
+(fn-def "made::cell" (op2 (mul u64) (var col) $1))
+(fn-def "places::RowStart::of" (op2 (mul u64) (var row) (var columns)))
+END
+}
+tried() { # FACTOR_IN_THE_LOOP LISTED
+    made_up "$1" | products made "$2" row >/dev/null
+}
+tried '(int 64 12)' ' made::row*2 made::cell*12' || { echo 'the products of the made-up form are not listed'; exit 1; }
+for listed in ' made::row*2 made::cell*12' ' made::row*2' ''; do
+    ! tried '(var columns)' "$listed" || { echo "a product of two numbers passes: it lists$listed"; exit 1; }
+done
 
 look setup ' places::RowStart::cell_start*12' fill_row copy_row setup_row
 look wandering ' wandering::visit_row*2 places::RowStart::cell_start*12' visit_row

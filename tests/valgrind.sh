@@ -35,7 +35,7 @@ memcheck "$work/vectors" "$work/small"
 # ---- faulty libraries, and what is said of each
 report() { # FAULT PROGRAM
     compile_fault "$1"
-    cc "$wrapped" "$work"/{"$2",watched,calls,lent,faulty,faulty_lines}.o "$library" -o "$work/faulty" || exit 1
+    cc "$wrapped" "$work"/{"$2",watched,calls,lent}.o "${faulty[@]}" "$library" -o "$work/faulty" || exit 1
     memcheck "$work/faulty" 2>&1 && echo 'nothing is found'
 }
 for program in memcheck memcheck_lines; do
@@ -66,6 +66,9 @@ done <<'END'
 62 key: depends on what the memory held
 63 Invalid write of size 8
 64 Conditional jump or move depends on uninitialised value
+65 key: depends on what the memory held
+66 Invalid read of size 1
+67 Invalid read of size 1
 117 salt: written past its used part
 118 key: written past its used part
 119 Invalid write of size 1

@@ -20,10 +20,15 @@ compile() { # NAME..
     done
 }
 
-# Compiles the faulty library to two objects; `wrapped` is for the linker.
+# Compiles the faulty library to the objects `faulty`; `wrapped` is for the linker. Each source has a hundred of the numbers,
+# and is as good as without a fault for all others.
 compile_fault() { # FAULT
-    local name
-    for name in faulty faulty_lines; do
-        cc "${flags[@]}" -DFAULT="$1" -c "tests/c/$name.c" -o "$work/$name.o" || exit 1
+    local sources=(faulty faulty_lines faulty_settings) place own object
+    faulty=()
+    for place in "${!sources[@]}"; do
+        own=$(($1 / 100 == place ? $1 : 0))
+        object=$work/${sources[place]}_$own.o
+        [ -e "$object" ] || cc "${flags[@]}" -DFAULT="$own" -c "tests/c/${sources[place]}.c" -o "$object" || exit 1
+        faulty+=("$object")
     done
 }

@@ -4,13 +4,27 @@
 const char *const operation_names[OPERATIONS] = {"derive_recorded", "derive", "check", "cost"};
 size_t calls_made;
 
+const struct sizes accepted_sizes = {
+    .key = 32,
+    .password = 31,
+    .salt = 8,
+    .time = 1,
+    .rows = 3,
+    .columns = 1,
+    .rounds = LYRA2_REDUCED_ROUNDS_USUAL,
+    .rotation = LYRA2_ROTATION_USUAL,
+    .matrix = 36,
+    .record = 12,
+};
+
 #define CHECKS_OF_COST                                                                                              \
     LYRA2_REFUSED_KEY, LYRA2_REFUSED_PASSWORD, LYRA2_REFUSED_SALT_TOO_SHORT, LYRA2_REFUSED_SALT_TOO_LONG,          \
-        LYRA2_REFUSED_TIME, LYRA2_REFUSED_ROWS, LYRA2_REFUSED_COLUMNS
+        LYRA2_REFUSED_TIME, LYRA2_REFUSED_ROWS, LYRA2_REFUSED_COLUMNS, LYRA2_REFUSED_ROUNDS
+#define CHECKS_OF_PLAIN CHECKS_OF_COST, LYRA2_REFUSED_ROTATION, LYRA2_REFUSED_MATRIX
 const uint32_t checks_of[OPERATIONS][MOST_CHECKS + 1] = {
-    [RECORDED] = {CHECKS_OF_COST, LYRA2_REFUSED_MATRIX, LYRA2_REFUSED_RECORD},
-    [PLAIN] = {CHECKS_OF_COST, LYRA2_REFUSED_MATRIX},
-    [CHECK] = {CHECKS_OF_COST, LYRA2_REFUSED_MATRIX},
+    [RECORDED] = {CHECKS_OF_PLAIN, LYRA2_REFUSED_RECORD},
+    [PLAIN] = {CHECKS_OF_PLAIN},
+    [CHECK] = {CHECKS_OF_PLAIN},
     [COST] = {CHECKS_OF_COST},
 };
 
@@ -63,16 +77,16 @@ static uint32_t ask(struct call *call)
     uint64_t *state = lent_part(&call->state), *counts = lent_part(&call->counts);
     switch (call->operation) {
     case RECORDED:
-        return lyra2_derive_recorded(password, n->password, salt, n->salt, n->time, n->rows, n->columns, key, n->key,
-                                     matrix, n->matrix, record, n->record, state, counts);
+        return lyra2_derive_recorded(password, n->password, salt, n->salt, n->time, n->rows, n->columns, n->rounds,
+                                     n->rotation, key, n->key, matrix, n->matrix, record, n->record, state, counts);
     case PLAIN:
-        return lyra2_derive(password, n->password, salt, n->salt, n->time, n->rows, n->columns, key, n->key, matrix,
-                            n->matrix, counts);
+        return lyra2_derive(password, n->password, salt, n->salt, n->time, n->rows, n->columns, n->rounds, n->rotation,
+                            key, n->key, matrix, n->matrix, counts);
     case CHECK:
-        return lyra2_check(password, n->password, salt, n->salt, n->time, n->rows, n->columns, key, n->key, matrix,
-                           n->matrix, lent_part(&call->same), counts);
+        return lyra2_check(password, n->password, salt, n->salt, n->time, n->rows, n->columns, n->rounds, n->rotation,
+                           key, n->key, matrix, n->matrix, lent_part(&call->same), counts);
     default:
-        return lyra2_cost(n->key, n->password, n->salt, n->time, n->rows, n->columns, counts);
+        return lyra2_cost(n->key, n->password, n->salt, n->time, n->rows, n->columns, n->rounds, counts);
     }
 }
 

@@ -11,8 +11,11 @@ enum operation { RECORDED, PLAIN, CHECK, COST, OPERATIONS };
 
 /* The numbers of a call. Matrix and record are in words, the lengths in bytes. */
 struct sizes {
-    size_t key, password, salt, time, rows, columns, matrix, record;
+    size_t key, password, salt, time, rows, columns, rounds, rotation, matrix, record;
 };
+
+/* Sizes that every operation accepts, with the usual settings and a matrix and a record that fit exactly. */
+extern const struct sizes accepted_sizes;
 
 /* What a call reads. A null stands for the pattern of lent memory. */
 struct contents {
@@ -29,7 +32,7 @@ struct call {
 extern const char *const operation_names[OPERATIONS];
 
 /* The checks of each operation in their order; LYRA2_ACCEPTED ends the list. The recorded derivation has them all. */
-enum { MOST_CHECKS = 9 };
+enum { MOST_CHECKS = 11 };
 extern const uint32_t checks_of[OPERATIONS][MOST_CHECKS + 1];
 bool has_check(enum operation operation, uint32_t check);
 

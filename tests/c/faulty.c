@@ -1,7 +1,8 @@
 /*
  * A library with one fault, to see that the tests of the C interface find it: linked with --wrap, it stands between a
  * test and the library. FAULT chooses the fault; 0 is none, those from 60 on are seen by memcheck alone, and those from
- * 70 on by the search of the stack alone. Those from 100 on are in faulty_lines.c.
+ * 70 on by the search of the stack alone. Those from 100 on are in faulty_lines.c and those from 200 on in
+ * faulty_settings.c.
  */
 #include "faulty.h"
 #include "lyra2.h"
@@ -11,14 +12,20 @@
 
 #define DERIVE_PARAMETERS                                                                                          \
     const uint8_t *password, size_t password_len, const uint8_t *salt, size_t salt_len, size_t time, size_t rows, \
-        size_t columns, uint8_t *key, size_t key_len, uint64_t *matrix, size_t matrix_words
-#define DERIVE_VALUES password, password_len, salt, salt_len, time, rows, columns, key, key_len, matrix, matrix_words
+        size_t columns, size_t rounds, size_t rotation, uint8_t *key, size_t key_len, uint64_t *matrix,            \
+        size_t matrix_words
+#define DERIVE_VALUES                                                                                              \
+    password, password_len, salt, salt_len, time, rows, columns, rounds, rotation, key, key_len, matrix, matrix_words
 #define CHECK_PARAMETERS                                                                                           \
     const uint8_t *password, size_t password_len, const uint8_t *salt, size_t salt_len, size_t time, size_t rows, \
-        size_t columns, const uint8_t *stored, size_t stored_len, uint64_t *matrix, size_t matrix_words,           \
-        uint32_t *same, uint64_t *counts
+        size_t columns, size_t rounds, size_t rotation, const uint8_t *stored, size_t stored_len,                  \
+        uint64_t *matrix, size_t matrix_words, uint32_t *same, uint64_t *counts
 #define CHECK_VALUES                                                                                               \
-    password, password_len, salt, salt_len, time, rows, columns, stored, stored_len, matrix, matrix_words, same, counts
+    password, password_len, salt, salt_len, time, rows, columns, rounds, rotation, stored, stored_len, matrix,     \
+        matrix_words, same, counts
+#define COST_PARAMETERS                                                                                            \
+    size_t key_len, size_t password_len, size_t salt_len, size_t time, size_t rows, size_t columns, size_t rounds, \
+        uint64_t *counts
 
 uint32_t __real_lyra2_derive(DERIVE_PARAMETERS, uint64_t *counts);
 uint32_t __wrap_lyra2_derive(DERIVE_PARAMETERS, uint64_t *counts);
@@ -28,10 +35,8 @@ uint32_t __wrap_lyra2_derive_recorded(DERIVE_PARAMETERS, uint64_t *record, size_
                                       uint64_t *counts);
 uint32_t __real_lyra2_check(CHECK_PARAMETERS);
 uint32_t __wrap_lyra2_check(CHECK_PARAMETERS);
-uint32_t __real_lyra2_cost(size_t key_len, size_t password_len, size_t salt_len, size_t time, size_t rows,
-                           size_t columns, uint64_t *counts);
-uint32_t __wrap_lyra2_cost(size_t key_len, size_t password_len, size_t salt_len, size_t time, size_t rows,
-                           size_t columns, uint64_t *counts);
+uint32_t __real_lyra2_cost(COST_PARAMETERS);
+uint32_t __wrap_lyra2_cost(COST_PARAMETERS);
 uint32_t __real_lyra2_walk(size_t rows, size_t row0, size_t *row1);
 uint32_t __wrap_lyra2_walk(size_t rows, size_t row0, size_t *row1);
 
@@ -40,7 +45,8 @@ static bool is_accepted(DERIVE_PARAMETERS)
 {
     uint64_t counts[LYRA2_COUNTS];
     (void)password, (void)salt, (void)key, (void)matrix;
-    return __real_lyra2_cost(key_len, password_len, salt_len, time, rows, columns, counts) == LYRA2_ACCEPTED
+    return __real_lyra2_cost(key_len, password_len, salt_len, time, rows, columns, rounds, counts) == LYRA2_ACCEPTED
+        && LYRA2_ROTATION_MIN <= rotation && rotation <= LYRA2_ROTATION_MAX
         && matrix_words >= LYRA2_MATRIX_WORDS(rows, columns);
 }
 
@@ -101,8 +107,9 @@ static uint32_t refuse(uint32_t refusal, uint64_t *counts)
 uint32_t __wrap_lyra2_derive(DERIVE_PARAMETERS, uint64_t *counts)
 {
     volatile uint8_t seen = 0;
-    uint64_t rounds = counts[LYRA2_ROUNDS];
-    bool looks = FAULT == 54 || FAULT == 62;
+    uint64_t spent = counts[LYRA2_ROUNDS];
+    struct given given = {rounds, rotation, matrix_words >= LYRA2_MATRIX_WORDS(rows, columns)};
+    bool looks = FAULT == 54 || FAULT == 62 || FAULT == 65;
     uint64_t before = looks && is_accepted(DERIVE_VALUES) ? matrix[35] : 0;
     if (has(60, key_len == 0))
         seen = salt[0];
@@ -122,6 +129,7 @@ uint32_t __wrap_lyra2_derive(DERIVE_PARAMETERS, uint64_t *counts)
         return refuse(LYRA2_REFUSED_SALT_TOO_LONG, counts);
     if (has(29, salt_len == LYRA2_SALT_MAX + 1))
         salt_len--;
+    spoil_settings(OF_DERIVE, &rounds, &rotation);
     uint32_t answer = __real_lyra2_derive(DERIVE_VALUES, counts);
     bool accepted = answer == LYRA2_ACCEPTED;
     if (has(30, answer == LYRA2_REFUSED_SALT_TOO_LONG))
@@ -137,7 +145,7 @@ uint32_t __wrap_lyra2_derive(DERIVE_PARAMETERS, uint64_t *counts)
     if (has(5, accepted))
         matrix[LYRA2_MATRIX_WORDS(rows, columns)] ^= 1;
     if (has(6, !accepted))
-        counts[LYRA2_ROUNDS] = rounds;
+        counts[LYRA2_ROUNDS] = spent;
     if (has(7, accepted))
         memset((uint8_t *)password, 0, password_len);
     if (has(8, !accepted && key_len > 0))
@@ -154,26 +162,30 @@ uint32_t __wrap_lyra2_derive(DERIVE_PARAMETERS, uint64_t *counts)
         matrix[35] = before;
     if (has(61, accepted))
         seen = password[password_len];
-    if (has(62, accepted))
+    if (has(62, accepted) || has(65, accepted && rotation != LYRA2_ROTATION_USUAL))
         key[0] ^= (uint8_t)before;
+    if (has(66, answer == LYRA2_REFUSED_ROUNDS) || has(67, answer == LYRA2_REFUSED_ROTATION))
+        seen = salt[0];
     if (has(70, accepted))
         leave(key, key_len);
     if (has(71, accepted))
         leave(key + key_len - 1, 1);
-    if (has(72, accepted))
+    if (has(72, accepted) || has(80, accepted && rounds == LYRA2_REDUCED_ROUNDS_MAX))
         leave(password, password_len);
-    if (has(73, accepted)) {
+    if (has(73, accepted) || has(79, accepted && rotation != LYRA2_ROTATION_USUAL)) {
         record_instead(DERIVE_VALUES);
         fill(matrix, 0, LYRA2_MATRIX_WORDS(rows, columns), 0);
     }
     (void)seen;
-    return answer;
+    return spoil_answer(OF_DERIVE, given, answer, counts);
 }
 
 uint32_t __wrap_lyra2_derive_recorded(DERIVE_PARAMETERS, uint64_t *record, size_t record_words, uint64_t *state,
                                       uint64_t *counts)
 {
     uint64_t last_word = state[LYRA2_STATE_WORDS - 1], full = counts[LYRA2_FULL_CALLS];
+    struct given given = {rounds, rotation, matrix_words >= LYRA2_MATRIX_WORDS(rows, columns)};
+    spoil_settings(OF_RECORDED, &rounds, &rotation);
     uint32_t answer = __real_lyra2_derive_recorded(DERIVE_VALUES, record, record_words, state, counts);
     bool accepted = answer == LYRA2_ACCEPTED;
     if (has(10, accepted))
@@ -198,7 +210,7 @@ uint32_t __wrap_lyra2_derive_recorded(DERIVE_PARAMETERS, uint64_t *record, size_
         leave(key, key_len);
     if (has(78, accepted))
         leave(key + key_len - 1, 1);
-    return answer;
+    return spoil_answer(OF_RECORDED, given, answer, counts);
 }
 
 /* Stops at the first byte that differs. */
@@ -215,6 +227,8 @@ uint32_t __wrap_lyra2_check(CHECK_PARAMETERS)
     uint8_t key[LYRA2_KEY_MAX];
     uint32_t flag = *same;
     uint64_t reduced = counts[LYRA2_REDUCED_CALLS];
+    struct given given = {rounds, rotation, matrix_words >= LYRA2_MATRIX_WORDS(rows, columns)};
+    spoil_settings(OF_CHECK, &rounds, &rotation);
     uint32_t answer = __real_lyra2_check(CHECK_VALUES);
     bool accepted = answer == LYRA2_ACCEPTED;
     if (has(14, !accepted))
@@ -228,8 +242,8 @@ uint32_t __wrap_lyra2_check(CHECK_PARAMETERS)
     if (has(16, accepted))
         *same = 1;
     if (accepted)
-        spoil_matrix(FAULT - 43, password, password_len, salt, salt_len, time, rows, columns, key, stored_len, matrix,
-                     matrix_words);
+        spoil_matrix(FAULT - 43, password, password_len, salt, salt_len, time, rows, columns, rounds, rotation, key,
+                     stored_len, matrix, matrix_words);
     if (has(50, !accepted))
         fill(matrix, 0, matrix_words, 0);
     if (has(51, accepted && *same == 0))
@@ -241,22 +255,24 @@ uint32_t __wrap_lyra2_check(CHECK_PARAMETERS)
     if (has(76, accepted))
         leave(password, password_len);
     if (FAULT == 64 && accepted
-        && __real_lyra2_derive(password, password_len, salt, salt_len, time, rows, columns, key, stored_len, matrix,
-                               matrix_words, counts) == LYRA2_ACCEPTED)
+        && __real_lyra2_derive(password, password_len, salt, salt_len, time, rows, columns, rounds, rotation, key,
+                               stored_len, matrix, matrix_words, counts) == LYRA2_ACCEPTED)
         *same = compare_early(stored, key, stored_len);
-    return answer;
+    return spoil_answer(OF_CHECK, given, answer, counts);
 }
 
-uint32_t __wrap_lyra2_cost(size_t key_len, size_t password_len, size_t salt_len, size_t time, size_t rows,
-                           size_t columns, uint64_t *counts)
+uint32_t __wrap_lyra2_cost(COST_PARAMETERS)
 {
-    uint64_t rounds = counts[LYRA2_ROUNDS];
-    uint32_t answer = __real_lyra2_cost(key_len, password_len, salt_len, time, rows, columns, counts);
+    uint64_t spent = counts[LYRA2_ROUNDS];
+    struct given given = {rounds, LYRA2_ROTATION_USUAL, true};
+    size_t rotation = given.rotation;
+    spoil_settings(OF_COST, &rounds, &rotation);
+    uint32_t answer = __real_lyra2_cost(key_len, password_len, salt_len, time, rows, columns, rounds, counts);
     if (has(17, answer == LYRA2_ACCEPTED))
         counts[LYRA2_FULL_CALLS]++;
     if (has(24, answer != LYRA2_ACCEPTED))
-        counts[LYRA2_ROUNDS] = rounds;
-    return answer;
+        counts[LYRA2_ROUNDS] = spent;
+    return spoil_answer(OF_COST, given, answer, counts);
 }
 
 uint32_t __wrap_lyra2_walk(size_t rows, size_t row0, size_t *row1)

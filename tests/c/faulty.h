@@ -1,4 +1,4 @@
-/* What the parts of the faulty library share. FAULT chooses the fault. */
+/* What the parts of the faulty library share. FAULT chooses the fault; 0 is none. */
 #ifndef FAULTY_H
 #define FAULTY_H
 
@@ -11,6 +11,21 @@ static inline bool has(int fault, bool condition)
 {
     return FAULT == fault && condition;
 }
+
+/* The settings that a call is given, and whether its matrix is long enough. */
+struct given {
+    size_t rounds, rotation;
+    bool matrix_fits;
+};
+
+/* The first fault in the settings of each operation, and of all operations at once. */
+enum { OF_DERIVE = 200, OF_RECORDED = 220, OF_CHECK = 240, OF_COST = 260, OF_ALL = 280 };
+
+/* Changes the settings before they reach the library. */
+void spoil_settings(int first, size_t *rounds, size_t *rotation);
+
+/* The number in the place of the library's, which was given spoilt settings; changes the counts of an accepted call. */
+uint32_t spoil_answer(int first, struct given given, uint32_t answer, uint64_t *counts);
 
 /* Leaves up to eight bytes on the stack, where no word starts, as a function does that does not wipe its own place. */
 void leave(const uint8_t *bytes, size_t count);

@@ -77,6 +77,12 @@ size_t require_number(struct text line, const char *name)
     return number;
 }
 
+size_t number_or(struct text line, const char *name, size_t otherwise)
+{
+    struct text value;
+    return find(line, name, &value) ? require_number(line, name) : otherwise;
+}
+
 static uint64_t hexadecimal(const char *digits, size_t count)
 {
     uint64_t value = 0;

@@ -18,6 +18,7 @@ bool find(struct text line, const char *name, struct text *value);
 /* The value of a field that the line must have. What they cannot read ends the program. */
 struct text require_field(struct text line, const char *name);
 size_t require_number(struct text line, const char *name);
+size_t number_or(struct text line, const char *name, size_t otherwise); /* or this, if the line has no such field */
 uint64_t require_word(struct text line, const char *name);
 
 /* As many words as are asked for, with commas between them. */

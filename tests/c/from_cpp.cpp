@@ -11,9 +11,12 @@ int main()
     uint8_t key[32] = {};
     uint64_t matrix[LYRA2_MATRIX_WORDS(3, 1)], counts[LYRA2_COUNTS];
     uint32_t same = 0;
-    if (lyra2_derive(password, 1, salt, sizeof salt, 1, 3, 1, key, sizeof key, matrix, 36, counts) != LYRA2_ACCEPTED)
+    const size_t rounds = LYRA2_REDUCED_ROUNDS_USUAL, rotation = LYRA2_ROTATION_USUAL;
+    if (lyra2_derive(password, 1, salt, sizeof salt, 1, 3, 1, rounds, rotation, key, sizeof key, matrix, 36,
+                     counts) != LYRA2_ACCEPTED)
         return 1;
-    if (lyra2_check(password, 1, salt, sizeof salt, 1, 3, 1, key, sizeof key, matrix, 36, &same, counts) != LYRA2_ACCEPTED)
+    if (lyra2_check(password, 1, salt, sizeof salt, 1, 3, 1, rounds, rotation, key, sizeof key, matrix, 36, &same,
+                    counts) != LYRA2_ACCEPTED)
         return 1;
     return same == 1 && counts[LYRA2_REDUCED_CALLS] == 6 ? 0 : 1;
 }

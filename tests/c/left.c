@@ -34,14 +34,14 @@ static void call(void)
 {
     const struct sizes *n = &sizes;
     if (operation == RECORDED)
-        answer = lyra2_derive_recorded(password, n->password, salt, n->salt, n->time, n->rows, n->columns, key, n->key,
-                                       matrix, n->matrix, record, n->record, state, counts);
+        answer = lyra2_derive_recorded(password, n->password, salt, n->salt, n->time, n->rows, n->columns, n->rounds,
+                                       n->rotation, key, n->key, matrix, n->matrix, record, n->record, state, counts);
     else if (operation == PLAIN)
-        answer = lyra2_derive(password, n->password, salt, n->salt, n->time, n->rows, n->columns, key, n->key, matrix,
-                              n->matrix, counts);
+        answer = lyra2_derive(password, n->password, salt, n->salt, n->time, n->rows, n->columns, n->rounds,
+                              n->rotation, key, n->key, matrix, n->matrix, counts);
     else
-        answer = lyra2_check(password, n->password, salt, n->salt, n->time, n->rows, n->columns, key, n->key, matrix,
-                             n->matrix, &same, counts);
+        answer = lyra2_check(password, n->password, salt, n->salt, n->time, n->rows, n->columns, n->rounds,
+                             n->rotation, key, n->key, matrix, n->matrix, &same, counts);
 }
 
 /* Whether eight bytes stand on the used part of a side's stack. */
@@ -163,10 +163,16 @@ static void require_sight(struct side *one, struct side *other)
         fail("%zu and %zu words are seen to differ", before, after);
 }
 
+/* One shape, with the rounds and the rotation that `sizes` has. */
 static void require_shape(size_t time, size_t rows, size_t columns, size_t key_bytes, size_t password_bytes)
 {
     static struct side one, other;
-    sizes = fitting((struct sizes){key_bytes, password_bytes, LYRA2_SALT_MAX, time, rows, columns, 0, 0});
+    sizes.key = key_bytes;
+    sizes.password = password_bytes;
+    sizes.time = time;
+    sizes.rows = rows;
+    sizes.columns = columns;
+    sizes = fitting(sizes);
     prepare_side(&one);
     prepare_side(&other);
     for (operation = RECORDED; operation <= CHECK; operation++)
@@ -177,18 +183,33 @@ static void require_shape(size_t time, size_t rows, size_t columns, size_t key_b
         require_sight(&one, &other);
 }
 
-int main(void)
+static void require_settings(size_t rounds, size_t rotation)
 {
-    static const size_t keys[] = {LYRA2_KEY_MAX, 200, 192, 97, 96, 95, 32, 8, 1};
-    static const size_t passwords[] = {LYRA2_PASSWORD_MAX, 100, 64, 32, 31, 20, 8, 1};
+    sizes.rounds = rounds;
+    sizes.rotation = rotation;
     for (size_t time = 0; time <= MOST_TIME; time++) {
-        for (size_t i = 0; i < sizeof keys / sizeof *keys; i++)
-            for (size_t j = 0; j < sizeof passwords / sizeof *passwords; j++)
-                require_shape(time, 3 + i % 2, 1 + j % 3, keys[i], passwords[j]);
         require_shape(time, MOST_ROWS, MOST_COLUMNS, LYRA2_KEY_MAX, LYRA2_PASSWORD_MAX);
         require_shape(time, MOST_ROWS, 1, 96, 20);
         require_shape(time, 3, MOST_COLUMNS, 32, 20);
     }
+}
+
+int main(void)
+{
+    static const size_t keys[] = {LYRA2_KEY_MAX, 200, 192, 97, 96, 95, 32, 8, 1};
+    static const size_t passwords[] = {LYRA2_PASSWORD_MAX, 100, 64, 32, 31, 20, 8, 1};
+    sizes = accepted_sizes;
+    sizes.salt = LYRA2_SALT_MAX;
+    for (size_t time = 0; time <= MOST_TIME; time++)
+        for (size_t i = 0; i < sizeof keys / sizeof *keys; i++)
+            for (size_t j = 0; j < sizeof passwords / sizeof *passwords; j++)
+                require_shape(time, 3 + i % 2, 1 + j % 3, keys[i], passwords[j]);
+    require_settings(LYRA2_REDUCED_ROUNDS_USUAL, LYRA2_ROTATION_USUAL);
+    require_settings(LYRA2_REDUCED_ROUNDS_USUAL, LYRA2_ROTATION_MAX);
+    require_settings(LYRA2_REDUCED_ROUNDS_MAX, LYRA2_ROTATION_USUAL);
+    require_settings(LYRA2_REDUCED_ROUNDS_MAX, LYRA2_ROTATION_MAX);
+    require_settings(2, LYRA2_ROTATION_MIN);
+    require_settings(3, 5);
     printf("left on the stack: none of %zu words; in %zu pairs of calls at most %zu bytes of picks differ\n", searched,
            pairs, most_bytes);
     return 0;

@@ -1,6 +1,7 @@
 /* The header's limits, sizes and sentences are the library's own: each limit is accepted and one beyond it refused. */
 #include "calls.h"
 
+#include <inttypes.h>
 #include <stdio.h>
 #include <stdlib.h>
 #include <string.h>
@@ -8,7 +9,6 @@
 /* Words past the used ones, in the calls that lend more than is needed. */
 enum { SPARE = 5 };
 
-static const struct sizes usual = {32, 31, 8, 1, 3, 1, 36, 12};
 static const struct contents nothing = {NULL, NULL, NULL};
 
 /* Two calls left the same in a part that both wrote. */
@@ -48,6 +48,16 @@ static void require_checks(const struct call *derived)
     free(stored);
 }
 
+/* The rounds spent are those of the full and of the reduced calls. */
+static void require_rounds(const struct call *call)
+{
+    const uint64_t *counts = lent_part(&call->counts);
+    uint64_t due = 12 * counts[LYRA2_FULL_CALLS] + call->sizes.rounds * counts[LYRA2_REDUCED_CALLS];
+    if (counts[LYRA2_ROUNDS] != due)
+        fail("%s: %" PRIu64 " rounds, where %" PRIu64 " are due", operation_names[call->operation],
+             counts[LYRA2_ROUNDS], due);
+}
+
 /* All operations accept the sizes and agree with one another. */
 static void require_agreement(struct sizes sizes)
 {
@@ -57,11 +67,12 @@ static void require_agreement(struct sizes sizes)
     make_call(&plain, PLAIN, sizes, contents);
     make_call(&cost, COST, sizes, nothing);
     if (recorded.answer != LYRA2_ACCEPTED || plain.answer != LYRA2_ACCEPTED || cost.answer != LYRA2_ACCEPTED)
-        fail("answers %u, %u, %u at T %zu, R %zu, C %zu", recorded.answer, plain.answer, cost.answer, sizes.time,
-             sizes.rows, sizes.columns);
+        fail("answers %u, %u, %u at T %zu, R %zu, C %zu, rounds %zu, rotation %zu", recorded.answer, plain.answer,
+             cost.answer, sizes.time, sizes.rows, sizes.columns, sizes.rounds, sizes.rotation);
     require_same(&recorded.key, &plain.key, sizes.key, "key");
     require_same(&recorded.counts, &plain.counts, 8 * LYRA2_COUNTS, "counts");
     require_same(&recorded.counts, &cost.counts, 8 * LYRA2_COUNTS, "counts and cost");
+    require_rounds(&recorded);
     require_checks(&plain);
     end_call(&recorded);
     end_call(&plain);
@@ -103,11 +114,15 @@ static const struct limit limits[] = {
     {offsetof(struct sizes, rows), LYRA2_ROWS_MIN, LYRA2_ROWS_MAX, LYRA2_REFUSED_ROWS, LYRA2_REFUSED_ROWS},
     {offsetof(struct sizes, columns), LYRA2_COLUMNS_MIN, LYRA2_COLUMNS_MAX, LYRA2_REFUSED_COLUMNS,
      LYRA2_REFUSED_COLUMNS},
+    {offsetof(struct sizes, rounds), LYRA2_REDUCED_ROUNDS_MIN, LYRA2_REDUCED_ROUNDS_MAX, LYRA2_REFUSED_ROUNDS,
+     LYRA2_REFUSED_ROUNDS},
+    {offsetof(struct sizes, rotation), LYRA2_ROTATION_MIN, LYRA2_ROTATION_MAX, LYRA2_REFUSED_ROTATION,
+     LYRA2_REFUSED_ROTATION},
 };
 
 static struct sizes with(const struct limit *limit, size_t value)
 {
-    struct sizes sizes = usual;
+    struct sizes sizes = accepted_sizes;
     *(size_t *)((uint8_t *)&sizes + limit->place) = value;
     return sizes;
 }
@@ -138,7 +153,7 @@ static void require_limit(const struct limit *limit)
  * A record without visits has no words. */
 static void require_least_words(size_t time, size_t rows, size_t columns)
 {
-    struct sizes sizes = usual;
+    struct sizes sizes = accepted_sizes;
     sizes.time = time;
     sizes.rows = rows;
     sizes.columns = columns;
@@ -154,6 +169,36 @@ static void require_least_words(size_t time, size_t rows, size_t columns)
     }
     sizes.matrix--;
     require_refused(sizes, LYRA2_REFUSED_MATRIX);
+}
+
+/* The plain derivation's key of a password and a salt of zeros. */
+static void derive_from_zeros(const struct sizes *sizes, uint8_t *key)
+{
+    static const uint8_t password[LYRA2_PASSWORD_MAX], salt[LYRA2_SALT_MAX];
+    struct call call;
+    make_call(&call, PLAIN, *sizes, (struct contents){password, salt, NULL});
+    if (call.answer != LYRA2_ACCEPTED)
+        fail("refused: %s", lyra2_sentence(call.answer));
+    memcpy(key, lent_part(&call.key), sizes->key);
+    end_call(&call);
+}
+
+/* All rounds and rotations go together, and no two choices give the same key. */
+static void require_settings(void)
+{
+    static uint8_t keys[LYRA2_REDUCED_ROUNDS_MAX * LYRA2_ROTATION_MAX][LYRA2_KEY_MAX];
+    struct sizes n = {.key = 32, .password = 20, .salt = 16, .time = 2, .rows = 5, .columns = 4};
+    size_t count = 0;
+    for (n.rounds = LYRA2_REDUCED_ROUNDS_MIN; n.rounds <= LYRA2_REDUCED_ROUNDS_MAX; n.rounds++)
+        for (n.rotation = LYRA2_ROTATION_MIN; n.rotation <= LYRA2_ROTATION_MAX; n.rotation++) {
+            n = fitting(n);
+            require_agreement(n);
+            derive_from_zeros(&n, keys[count]);
+            for (size_t i = 0; i < count; i++)
+                if (memcmp(keys[i], keys[count], n.key) == 0)
+                    fail("choices %zu and %zu of rounds and rotation give the same key", i, count);
+            count++;
+        }
 }
 
 static void require_walk_limits(void)
@@ -177,7 +222,7 @@ static void require_walk_limits(void)
 /* Every answer has a sentence of its own. */
 static void require_own_sentences(void)
 {
-    for (uint32_t i = 0; i <= LYRA2_REFUSED_OUTPUT + 1; i++)
+    for (uint32_t i = 0; i <= LYRA2_REFUSED_ROTATION + 1; i++)
         for (uint32_t j = 0; j < i; j++)
             if (strcmp(lyra2_sentence(i), lyra2_sentence(j)) == 0)
                 fail("%u and %u have the same sentence", i, j);
@@ -188,14 +233,17 @@ static void require_overlap(void)
 {
     uint8_t bytes[64], password[40], salt[16], key[32];
     uint64_t matrix[LYRA2_MATRIX_WORDS(3, 1)], counts[LYRA2_COUNTS];
+    const size_t rounds = LYRA2_REDUCED_ROUNDS_USUAL, rotation = LYRA2_ROTATION_USUAL;
     uint32_t right = 0, wrong = 1;
     for (size_t i = 0; i < sizeof bytes; i++)
         bytes[i] = (uint8_t)(i * i);
     memcpy(password, bytes, sizeof password);
     memcpy(salt, bytes + 32, sizeof salt);
-    if (lyra2_derive(password, 40, salt, 16, 1, 3, 1, key, 32, matrix, 36, counts) != LYRA2_ACCEPTED
-        || lyra2_check(bytes, 40, bytes + 32, 16, 1, 3, 1, key, 32, matrix, 36, &right, counts) != LYRA2_ACCEPTED
-        || lyra2_check(bytes, 40, bytes + 32, 16, 1, 3, 1, bytes + 4, 32, matrix, 36, &wrong, counts) != LYRA2_ACCEPTED
+    if (lyra2_derive(password, 40, salt, 16, 1, 3, 1, rounds, rotation, key, 32, matrix, 36, counts) != LYRA2_ACCEPTED
+        || lyra2_check(bytes, 40, bytes + 32, 16, 1, 3, 1, rounds, rotation, key, 32, matrix, 36, &right, counts)
+            != LYRA2_ACCEPTED
+        || lyra2_check(bytes, 40, bytes + 32, 16, 1, 3, 1, rounds, rotation, bytes + 4, 32, matrix, 36, &wrong, counts)
+            != LYRA2_ACCEPTED
         || right != 1 || wrong != 0)
         fail("overlap: the check said %u of the key and %u of other bytes", right, wrong);
 }
@@ -211,6 +259,7 @@ int main(void)
     require_least_words(3, 100, 33);
     require_least_words(LYRA2_TIME_MAX, 3, LYRA2_COLUMNS_MAX);
     require_least_words(1, LYRA2_ROWS_MAX, 2);
+    require_settings();
     require_walk_limits();
     require_own_sentences();
     require_overlap();

@@ -51,22 +51,23 @@ static void require_wiped(const struct sizes *n, const struct memory *m)
 static uint32_t derive_recorded(const struct sizes *n, struct memory *m)
 {
     calls_made++;
-    return lyra2_derive_recorded(m->password, n->password, m->salt, n->salt, n->time, n->rows, n->columns, m->key,
-                                 n->key, m->matrix, n->matrix, m->record, n->record, m->state, m->counts);
+    return lyra2_derive_recorded(m->password, n->password, m->salt, n->salt, n->time, n->rows, n->columns, n->rounds,
+                                 n->rotation, m->key, n->key, m->matrix, n->matrix, m->record, n->record, m->state,
+                                 m->counts);
 }
 
 static uint32_t derive(const struct sizes *n, struct memory *m)
 {
     calls_made++;
-    return lyra2_derive(m->password, n->password, m->salt, n->salt, n->time, n->rows, n->columns, m->key, n->key,
-                        m->matrix, n->matrix, m->counts);
+    return lyra2_derive(m->password, n->password, m->salt, n->salt, n->time, n->rows, n->columns, n->rounds,
+                        n->rotation, m->key, n->key, m->matrix, n->matrix, m->counts);
 }
 
 static uint32_t check(const struct sizes *n, struct memory *m)
 {
     calls_made++;
-    return lyra2_check(m->password, n->password, m->salt, n->salt, n->time, n->rows, n->columns, m->stored, n->key,
-                       m->matrix, n->matrix, m->same, m->counts);
+    return lyra2_check(m->password, n->password, m->salt, n->salt, n->time, n->rows, n->columns, n->rounds, n->rotation,
+                       m->stored, n->key, m->matrix, n->matrix, m->same, m->counts);
 }
 
 static void require_accepted(uint32_t answer)
@@ -137,7 +138,7 @@ static void require_refused(struct sizes n, uint32_t due)
         require_zero_field("same", m.same, sizeof *m.same);
     }
     if (has_check(COST, due)) {
-        require_answer(lyra2_cost(n.key, n.password, n.salt, n.time, n.rows, n.columns, m.counts), due, &m);
+        require_answer(lyra2_cost(n.key, n.password, n.salt, n.time, n.rows, n.columns, n.rounds, m.counts), due, &m);
         calls_made++;
     }
     take_all_back(&m);
@@ -145,8 +146,8 @@ static void require_refused(struct sizes n, uint32_t due)
 
 static void require_refusals(void)
 {
-    const struct sizes n = {32, 31, 8, 1, 3, 1, 36, 12};
-    struct sizes wrong[] = {n, n, n, n, n, n, n, n};
+    const struct sizes n = accepted_sizes;
+    struct sizes wrong[] = {n, n, n, n, n, n, n, n}, rounds = n, rotation = n;
     wrong[0].key = 0;
     wrong[1].password = LYRA2_PASSWORD_MAX + 1;
     wrong[2].salt = LYRA2_SALT_MIN - 1;
@@ -165,12 +166,15 @@ static void require_refusals(void)
     require_refused(wrong[3], LYRA2_REFUSED_TIME);
     wrong[6].matrix = 0;
     require_refused(wrong[6], LYRA2_REFUSED_MATRIX);
+    rounds.rounds = LYRA2_REDUCED_ROUNDS_MAX + 1;
+    require_refused(rounds, LYRA2_REFUSED_ROUNDS);
+    rotation.rotation = LYRA2_ROTATION_MAX + 1;
+    require_refused(rotation, LYRA2_REFUSED_ROTATION);
 }
 
-/* One shape with a key, a password and a salt of these lengths, exactly lent and with words to spare. */
-static void require_shape(size_t time, size_t rows, size_t columns, size_t key, size_t password, size_t salt)
+/* The lengths and numbers of these sizes, exactly lent and with words to spare. */
+static void require_sizes(struct sizes n)
 {
-    struct sizes n = {key, password, salt, time, rows, columns, 0, 0};
     for (size_t spare = 0; spare <= SPARE; spare += SPARE) {
         n.matrix = used_matrix(&n) + spare;
         n.record = used_record(&n) + spare;
@@ -182,11 +186,26 @@ static void require_shape(size_t time, size_t rows, size_t columns, size_t key, 
     require_check(&n, 0x80);
 }
 
+/* One shape with a key, a password and a salt of these lengths, and the usual settings. */
+static void require_shape(size_t time, size_t rows, size_t columns, size_t key, size_t password, size_t salt)
+{
+    require_sizes((struct sizes){key, password, salt, time, rows, columns, LYRA2_REDUCED_ROUNDS_USUAL,
+                                 LYRA2_ROTATION_USUAL, 0, 0});
+}
+
+/* Other settings, with Setup alone and with visits. */
+static void require_settings(size_t rounds, size_t rotation)
+{
+    for (size_t time = 0; time <= 2; time++)
+        for (size_t columns = 1; columns <= 16; columns *= 4)
+            require_sizes((struct sizes){97, 33, 9, time, 9, columns, rounds, rotation, 0, 0});
+}
+
 static void require_cost_and_walk(void)
 {
     uint64_t *counts = unwritten(8 * LYRA2_COUNTS);
     size_t *row1 = unwritten(sizeof(size_t));
-    require_accepted(lyra2_cost(32, 31, 8, 1, 3, 1, counts));
+    require_accepted(lyra2_cost(32, 31, 8, 1, 3, 1, LYRA2_REDUCED_ROUNDS_MAX, counts));
     require_written("counts", counts, 8 * LYRA2_COUNTS, 8 * LYRA2_COUNTS);
     for (size_t row0 = 2; row0 <= 17; row0++) {
         (void)VALGRIND_MAKE_MEM_UNDEFINED(row1, sizeof *row1);
@@ -222,6 +241,11 @@ int main(void)
     require_shape(2, 65, 16, 64, 20, 16);
     require_shape(1, 256, 64, 32, 20, 16);
     require_shape(LYRA2_TIME_MAX, 3, 1, 64, 20, 16);
+    require_settings(LYRA2_REDUCED_ROUNDS_USUAL, LYRA2_ROTATION_MAX);
+    require_settings(LYRA2_REDUCED_ROUNDS_MAX, LYRA2_ROTATION_USUAL);
+    require_settings(LYRA2_REDUCED_ROUNDS_MAX, LYRA2_ROTATION_MAX);
+    require_settings(2, LYRA2_ROTATION_MIN);
+    require_settings(3, 5);
     printf("memcheck: %zu calls\n", calls_made);
     return 0;
 }

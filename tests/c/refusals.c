@@ -6,9 +6,6 @@
 
 enum { SIDES = 3, LOW = 0, HIGH = 1, FAR = 2 };
 
-/* Every operation accepts these. */
-static const struct sizes accepted = {32, 31, 8, 1, 3, 1, 36, 12};
-
 static bool set(size_t *place, size_t value)
 {
     *place = value;
@@ -47,10 +44,14 @@ static bool make_apply(struct sizes *n, uint32_t check, int side, enum operation
         return set_number(&n->rows, side, LYRA2_ROWS_MIN - 1, LYRA2_ROWS_MAX + 1);
     case LYRA2_REFUSED_COLUMNS:
         return set_number(&n->columns, side, LYRA2_COLUMNS_MIN - 1, LYRA2_COLUMNS_MAX + 1);
+    case LYRA2_REFUSED_ROUNDS:
+        return set_number(&n->rounds, side, LYRA2_REDUCED_ROUNDS_MIN - 1, LYRA2_REDUCED_ROUNDS_MAX + 1);
+    case LYRA2_REFUSED_ROTATION:
+        return set_number(&n->rotation, side, LYRA2_ROTATION_MIN - 1, LYRA2_ROTATION_MAX + 1);
     case LYRA2_REFUSED_MATRIX:
-        return side != FAR && set(&n->matrix, side == LOW ? 0 : accepted.matrix - 1);
+        return side != FAR && set(&n->matrix, side == LOW ? 0 : accepted_sizes.matrix - 1);
     default:
-        return side != FAR && set(&n->record, side == LOW ? 0 : accepted.record - 1);
+        return side != FAR && set(&n->record, side == LOW ? 0 : accepted_sizes.record - 1);
     }
 }
 
@@ -59,9 +60,10 @@ static void require_answer(enum operation operation, struct sizes sizes, uint32_
     struct call call;
     make_call(&call, operation, sizes, (struct contents){NULL, NULL, NULL});
     if (call.answer != due)
-        fail("%s: %u is due, %u was answered: key %zu, password %zu, salt %zu, T %zu, R %zu, C %zu, matrix %zu, "
-             "record %zu", operation_names[operation], due, call.answer, sizes.key, sizes.password, sizes.salt,
-             sizes.time, sizes.rows, sizes.columns, sizes.matrix, sizes.record);
+        fail("%s: %u is due, %u was answered: key %zu, password %zu, salt %zu, T %zu, R %zu, C %zu, rounds %zu, "
+             "rotation %zu, matrix %zu, record %zu", operation_names[operation], due, call.answer, sizes.key,
+             sizes.password, sizes.salt, sizes.time, sizes.rows, sizes.columns, sizes.rounds, sizes.rotation,
+             sizes.matrix, sizes.record);
     end_call(&call);
 }
 
@@ -74,7 +76,7 @@ static bool exclude_each_other(uint32_t check, uint32_t later)
 /* One check from one side, alone and with each later check of the operation from each of its sides. */
 static void pair_with_later(enum operation operation, const uint32_t *check, int side)
 {
-    struct sizes one = accepted;
+    struct sizes one = accepted_sizes;
     if (!make_apply(&one, *check, side, operation))
         return;
     require_answer(operation, one, *check);
@@ -91,7 +93,7 @@ static void pair_with_later(enum operation operation, const uint32_t *check, int
 static void ignore_check(enum operation operation, uint32_t check)
 {
     for (int side = 0; side < SIDES; side++) {
-        struct sizes one = accepted;
+        struct sizes one = accepted_sizes;
         if (make_apply(&one, check, side, operation))
             require_answer(operation, one, LYRA2_ACCEPTED);
     }
@@ -122,7 +124,7 @@ static void pair_walk(void)
 int main(void)
 {
     for (enum operation operation = RECORDED; operation < OPERATIONS; operation++) {
-        require_answer(operation, accepted, LYRA2_ACCEPTED);
+        require_answer(operation, accepted_sizes, LYRA2_ACCEPTED);
         for (const uint32_t *check = checks_of[operation]; *check != LYRA2_ACCEPTED; check++)
             for (int side = 0; side < SIDES; side++)
                 pair_with_later(operation, check, side);

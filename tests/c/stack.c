@@ -19,26 +19,36 @@ static size_t row1;
 static uint8_t line[LYRA2_LINE_MAX], read_salt[LYRA2_SALT_MAX];
 static size_t line_len, values[LYRA2_LINE_VALUES];
 
+/* Rounds and rotation; the usual ones have code of their own. */
+static const size_t settings[][2] = {
+    {LYRA2_REDUCED_ROUNDS_USUAL, LYRA2_ROTATION_USUAL},
+    {LYRA2_REDUCED_ROUNDS_USUAL, LYRA2_ROTATION_MAX},
+    {LYRA2_REDUCED_ROUNDS_MAX, LYRA2_ROTATION_USUAL},
+    {LYRA2_REDUCED_ROUNDS_MAX, LYRA2_ROTATION_MAX},
+};
+
 static int operation;
+static size_t rounds, rotation;
 
 static void call(void)
 {
     size_t matrix_words = sizeof matrix / sizeof *matrix, record_words = sizeof record / sizeof *record;
     switch (operation) {
     case 0:
-        answer = lyra2_derive(password, sizeof password, salt, sizeof salt, TIME, ROWS, COLUMNS, key, sizeof key,
-                              matrix, matrix_words, counts);
+        answer = lyra2_derive(password, sizeof password, salt, sizeof salt, TIME, ROWS, COLUMNS, rounds, rotation, key,
+                              sizeof key, matrix, matrix_words, counts);
         break;
     case 1:
-        answer = lyra2_derive_recorded(password, sizeof password, salt, sizeof salt, TIME, ROWS, COLUMNS, key,
-                                       sizeof key, matrix, matrix_words, record, record_words, state, counts);
+        answer = lyra2_derive_recorded(password, sizeof password, salt, sizeof salt, TIME, ROWS, COLUMNS, rounds,
+                                       rotation, key, sizeof key, matrix, matrix_words, record, record_words, state,
+                                       counts);
         break;
     case 2:
-        answer = lyra2_check(password, sizeof password, salt, sizeof salt, TIME, ROWS, COLUMNS, key, sizeof key,
-                             matrix, matrix_words, &same, counts);
+        answer = lyra2_check(password, sizeof password, salt, sizeof salt, TIME, ROWS, COLUMNS, rounds, rotation, key,
+                             sizeof key, matrix, matrix_words, &same, counts);
         break;
     case 3:
-        answer = lyra2_cost(sizeof key, sizeof password, sizeof salt, TIME, ROWS, COLUMNS, counts);
+        answer = lyra2_cost(sizeof key, sizeof password, sizeof salt, TIME, ROWS, COLUMNS, rounds, counts);
         break;
     case 4:
         answer = lyra2_walk(ROWS, ROWS - 1, &row1);
@@ -52,13 +62,26 @@ static void call(void)
     }
 }
 
+/* The most that the operation uses with any of the settings. */
+static size_t most_used(void)
+{
+    size_t most = 0;
+    for (size_t i = 0; i < sizeof settings / sizeof *settings; i++) {
+        rounds = settings[i][0];
+        rotation = settings[i][1];
+        size_t used = run_marked(call);
+        if (answer != LYRA2_ACCEPTED)
+            fail("%s: %s", names[operation], lyra2_sentence(answer));
+        most = used > most ? used : most;
+    }
+    return most;
+}
+
 int main(void)
 {
     printf("stack:");
     for (operation = 0; operation < OPERATIONS_RUN; operation++) {
-        size_t used = run_marked(call);
-        if (answer != LYRA2_ACCEPTED)
-            fail("%s: %s", names[operation], lyra2_sentence(answer));
+        size_t used = most_used();
         if (used >= LYRA2_STACK_BYTES)
             fail("%s uses %zu bytes of stack", names[operation], used);
         printf(" %s %zu", names[operation], used);

@@ -37,6 +37,8 @@ static struct question read_question(struct text line, enum operation operation)
     n->time = require_number(line, "T");
     n->rows = require_number(line, "R");
     n->columns = require_number(line, "C");
+    n->rounds = number_or(line, "rho", LYRA2_REDUCED_ROUNDS_USUAL);
+    n->rotation = number_or(line, "omega", LYRA2_ROTATION_USUAL);
     if (operation == COST) {
         n->password = require_number(line, "password_len");
         n->salt = require_number(line, "salt_len");

@@ -3,13 +3,17 @@ use Prim.Native.Nat.{ℕ}
 use mathlib.Core.List.{List}
 use lib.ListN.{getD}
 use Rattle.settings.specs.declared.Parameters.{Parameters}
+use Rattle.settings.specs.declared.StoredParameters.{StoredParameters}
 use Rattle.settings.specs.declared.Lengths.{Lengths}
 use Rattle.derivation.specs.declared.Costs.{Costs}
 use Rattle.line_form.specs.declared.LineValues.{LineValues}
 use Rattle.line_form.specs.declared.LineLength.{LineLength}
 
-abbrev pub parameters : ℕ → ℕ → ℕ → Parameters
-parameters T R C = record { time = T; rows = R; columns = C }
+abbrev pub parameters : ℕ → ℕ → ℕ → ℕ → ℕ → Parameters
+parameters T R C ρ ω = record { time = T; rows = R; columns = C; rounds = ρ; rotation = ω }
+
+abbrev pub storedParameters : ℕ → ℕ → ℕ → StoredParameters
+storedParameters T R C = record { time = T; rows = R; columns = C }
 
 abbrev pub lengthsOf : ℕ → ℕ → ℕ → Lengths
 lengthsOf key password salt = record { key = key; password = password; salt = salt }

@@ -5,18 +5,26 @@ use profile::Profile;
 ghost use mathlib.Core.Path.{_≡_};
 ghost use Rattle.mixer.specs.Word.{plainSum};
 ghost use Rattle.permutation.specs.Round.{rounds};
-ghost use Rattle.profile.specs.Profile.{fullRounds, reducedRounds};
+ghost use Rattle.profile.specs.Profile.{fullRounds};
 
+// Round by round in calls: `round` keeps no word of the state on the stack, and `rounds` does.
 pub fn full_call(s: &mut [u64; 16])
     ensures { λ _. ⌜ now (s .exit) ≡ rounds plainSum fullRounds (now (s .entry)) ⌝ }
 {
-    rounds(s, Profile::FULL_ROUNDS);
+    let mut k = 0;
+    while k < Profile::FULL_ROUNDS {
+        round(s);
+        k += 1;
+    }
 }
 
-pub fn reduced_call(s: &mut [u64; 16])
-    ensures { λ _. ⌜ now (s .exit) ≡ rounds plainSum reducedRounds (now (s .entry)) ⌝ }
+// A call of n rounds. The usual single one pays for a comparison and no more.
+pub fn reduced_call(s: &mut [u64; 16], n: usize)
+    ensures { λ _. ⌜ now (s .exit) ≡ rounds plainSum n (now (s .entry)) ⌝ }
 {
-    // The first round by itself, so that the compiler makes no loop of a single one.
-    round(s);
-    rounds(s, Profile::REDUCED_ROUNDS - 1);
+    if n == Profile::USUAL_ROUNDS {
+        round(s);
+    } else {
+        rounds(s, n);
+    }
 }

@@ -1,5 +1,5 @@
 // The check of a stored key.
-use clearing::clear_state;
+use clearing::clear_run;
 use costs::refused;
 use costs::spent;
 use derivation::Costs;
@@ -34,7 +34,7 @@ fn check_accepted(
     let mut s = [0; 16];
     let ran = run_plain(&mut s, password, salt, stored.len(), p, matrix);
     let c = compare(&mut s, stored);
-    let calls = clear_state(&mut s, c.calls);
+    let calls = clear_run(&mut s, c.calls, p.rounds);
     let costs = spent(ran.full + calls, ran.reduced, p);
     Checked {
         costs,

@@ -1,5 +1,7 @@
 // Zeros in place of what a derivation worked on, once nothing needs it any more.
 use permutation::round;
+use permutation::rounds;
+use profile::Profile;
 use settings::Parameters;
 use settings::matrix_words;
 ghost use mathlib.Core.Path.{_≡_};
@@ -10,6 +12,9 @@ ghost use Rattle.profile.specs.Profile.{stateWords};
 ghost use Rattle.settings.specs.Settings.{settings};
 ghost use Rattle.settings.specs.Sizes.{matrixWords};
 
+// The stack that a derivation uses below its first function is shorter than so many blocks.
+const STACK_BLOCKS: usize = 8;
+
 // Zeros in the state; the answer is the number that is given. A compiler leaves out stores that nothing reads: so a round reads the
 // zeros, which gives zeros again, and a word of the result is added to the number. The round belongs to no call and is not counted.
 pub fn clear_state(s: &mut [u64; 16], number: u64) -> u64
@@ -18,6 +23,35 @@ pub fn clear_state(s: &mut [u64; 16], number: u64) -> u64
     *s = [0; 16];
     round(s);
     number + s[0]
+}
+
+// Zeros on the stack below its caller, in so many blocks of seventeen words, which with the address to return to fill a multiple of sixteen
+// bytes. Each call answers the word of its block that the one below it names, so that the compiler has to keep every block and every call.
+// No promise can speak of the stack: what is left there is measured.
+fn clear_stack(blocks: usize, zero: u64) -> u64
+    requires { ⌜ zero ≡ 0 ⌝ }
+    ensures { λ r. ⌜ r ≡ 0 ⌝ }
+{
+    let block = [zero; 17];
+    if blocks == 0 {
+        return block[0];
+    }
+    let below = clear_stack(blocks - 1, zero);
+    block[(below % 17) as usize]
+}
+
+// Zeros in the state, and on the stack where calls of n rounds kept words of it there if there are several; the answer is the number
+// that is given. The calls' function is used once more, of zeros: one that is called for in two places stays a function, and a reduced
+// call then stays small enough to be spread into the columns.
+pub fn clear_run(s: &mut [u64; 16], number: u64, n: usize) -> u64
+    ensures { λ r. ⌜ (r ≡ number) × (now (s .exit) ≡ replicate stateWords 0) ⌝ }
+{
+    let kept = clear_state(s, number);
+    if n == Profile::USUAL_ROUNDS {
+        return kept;
+    }
+    rounds(s, n);
+    clear_stack(STACK_BLOCKS, s[0]) + kept
 }
 
 // Zeros in the first n words.

@@ -15,14 +15,14 @@ const NUMBERS: usize = 6;
 
 // The answer of a call that was carried out.
 pub fn spent(full: u64, reduced: u64, p: Parameters) -> Costs
-    requires { ⌜ (full < 2 ^ 32) × (reduced < 2 ^ 32) ⌝ }
+    requires { ⌜ (full < 2 ^ 32) × (reduced < 2 ^ 32) × (p .rounds ≤ 12) ⌝ }
     ensures { λ r. ⌜ r ≡ spentOn (settings p) full reduced ⌝ }
 {
     Costs {
         refusal: 0,
         full,
         reduced,
-        rounds: (Profile::FULL_ROUNDS as u64) * full + (Profile::REDUCED_ROUNDS as u64) * reduced,
+        rounds: (Profile::FULL_ROUNDS as u64) * full + (p.rounds as u64) * reduced,
     }
 }
 

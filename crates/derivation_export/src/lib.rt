@@ -7,10 +7,13 @@ use c_answers::store_row;
 use c_answers::store_same;
 use c_answers::store_state;
 use c_answers::store_values;
+use profile::Profile;
 use settings::Lengths;
 use settings::Parameters;
+use settings::StoredParameters;
 ghost use mathlib.Core.Path.{_≡_};
 ghost use lib.ListN.{length};
+ghost use Rattle.profile.specs.Profile.{usualRotation};
 ghost use Rattle.input.specs.Input.{input};
 ghost use Rattle.refusals.specs.Checks.{first, costChecks};
 ghost use Rattle.derivation.specs.Answers.{costAnswer};
@@ -18,7 +21,7 @@ ghost use Rattle.derivation.specs.Contracts.{Derived, Compared, Recorded};
 ghost use Rattle.walk_question.specs.Question.{walkAnswer};
 ghost use Rattle.line_form.specs.Contracts.{Read, Written};
 ghost use Rattle.line_writing.specs.Values.{values};
-ghost use Rattle.c_answers.specs.Stored.{parameters, lengthsOf, stored as «counts-stored», storedValues, storedLength};
+ghost use Rattle.c_answers.specs.Stored.{parameters, storedParameters, lengthsOf, stored as «counts-stored», storedValues, storedLength};
 
 // The plain derivation: fills the key, and leaves zeros in the used matrix.
 #[no_mangle]
@@ -28,16 +31,20 @@ pub extern "C" fn lyra2_derive(
     time: usize,
     rows: usize,
     columns: usize,
+    rounds: usize,
+    rotation: usize,
     key: &mut [u8],
     matrix: &mut [u64],
     counts: &mut [u64; 3],
 ) -> u32
-    ensures { λ r. ⌜ Derived (parameters time rows columns) (input (now (password .entry)) (now (salt .entry)) (length (now (key .entry)))) (now (key .entry)) (now (matrix .entry)) (now (key .exit)) (now (matrix .exit)) («counts-stored» r (now (counts .exit))) ⌝ }
+    ensures { λ r. ⌜ Derived (parameters time rows columns rounds rotation) (input (now (password .entry)) (now (salt .entry)) (length (now (key .entry)))) (now (key .entry)) (now (matrix .entry)) (now (key .exit)) (now (matrix .exit)) («counts-stored» r (now (counts .exit))) ⌝ }
 {
     let p = Parameters {
         time,
         rows,
         columns,
+        rounds,
+        rotation,
     };
     store_costs(deriving::derive(password, salt, p, key, matrix), counts)
 }
@@ -50,24 +57,28 @@ pub extern "C" fn lyra2_check(
     time: usize,
     rows: usize,
     columns: usize,
+    rounds: usize,
+    rotation: usize,
     stored: &[u8],
     matrix: &mut [u64],
     same: &mut u32,
     counts: &mut [u64; 3],
 ) -> u32
-    ensures { λ r. ⌜ Compared (parameters time rows columns) (input (now (password .entry)) (now (salt .entry)) (length (now (stored .entry)))) (now (stored .entry)) (now (matrix .entry)) (now (matrix .exit)) («counts-stored» r (now (counts .exit))) (now (same .exit)) ⌝ }
+    ensures { λ r. ⌜ Compared (parameters time rows columns rounds rotation) (input (now (password .entry)) (now (salt .entry)) (length (now (stored .entry)))) (now (stored .entry)) (now (matrix .entry)) (now (matrix .exit)) («counts-stored» r (now (counts .exit))) (now (same .exit)) ⌝ }
 {
     let p = Parameters {
         time,
         rows,
         columns,
+        rounds,
+        rotation,
     };
     let a = checking::check(password, salt, p, stored, matrix);
     store_same(a, same);
     store_costs(a.costs, counts)
 }
 
-// The cost question.
+// The cost question. No cost depends on the rotation, so any will do.
 #[no_mangle]
 pub extern "C" fn lyra2_cost(
     key: usize,
@@ -76,9 +87,10 @@ pub extern "C" fn lyra2_cost(
     time: usize,
     rows: usize,
     columns: usize,
+    rounds: usize,
     counts: &mut [u64; 3],
 ) -> u32
-    ensures { λ r. ⌜ «counts-stored» r (now (counts .exit)) ≡ costAnswer (first (costChecks (lengthsOf key password salt) (parameters time rows columns))) (lengthsOf key password salt) (parameters time rows columns) ⌝ }
+    ensures { λ r. ⌜ «counts-stored» r (now (counts .exit)) ≡ costAnswer (first (costChecks (lengthsOf key password salt) (parameters time rows columns rounds usualRotation))) (lengthsOf key password salt) (parameters time rows columns rounds usualRotation) ⌝ }
 {
     let l = Lengths {
         key,
@@ -89,6 +101,8 @@ pub extern "C" fn lyra2_cost(
         time,
         rows,
         columns,
+        rounds,
+        rotation: Profile::USUAL_ROTATION,
     };
     store_costs(costs::cost(l, p), counts)
 }
@@ -109,18 +123,22 @@ pub extern "C" fn lyra2_derive_recorded(
     time: usize,
     rows: usize,
     columns: usize,
+    rounds: usize,
+    rotation: usize,
     key: &mut [u8],
     matrix: &mut [u64],
     record: &mut [u64],
     state: &mut [u64; 16],
     counts: &mut [u64; 3],
 ) -> u32
-    ensures { λ r. ⌜ Recorded (parameters time rows columns) (input (now (password .entry)) (now (salt .entry)) (length (now (key .entry)))) (now (key .entry)) (now (matrix .entry)) (now («record» .entry)) (now (key .exit)) (now (matrix .exit)) (now («record» .exit)) («counts-stored» r (now (counts .exit))) (now (state .exit)) ⌝ }
+    ensures { λ r. ⌜ Recorded (parameters time rows columns rounds rotation) (input (now (password .entry)) (now (salt .entry)) (length (now (key .entry)))) (now (key .entry)) (now (matrix .entry)) (now («record» .entry)) (now (key .exit)) (now (matrix .exit)) (now («record» .exit)) («counts-stored» r (now (counts .exit))) (now (state .exit)) ⌝ }
 {
     let p = Parameters {
         time,
         rows,
         columns,
+        rounds,
+        rotation,
     };
     let a = recorded::derive_recorded(password, salt, p, key, matrix, record);
     store_state(a, state);
@@ -151,9 +169,9 @@ pub extern "C" fn lyra2_line_write(
     line: &mut [u8],
     length: &mut usize,
 ) -> u32
-    ensures { λ r. ⌜ Written (values (parameters time rows columns) (now (salt .entry)) (now (key .entry))) (now (line .entry)) (now (line .exit)) (storedLength r (now (length .exit))) ⌝ }
+    ensures { λ r. ⌜ Written (values (storedParameters time rows columns) (now (salt .entry)) (now (key .entry))) (now (line .entry)) (now (line .exit)) (storedLength r (now (length .exit))) ⌝ }
 {
-    let p = Parameters {
+    let p = StoredParameters {
         time,
         rows,
         columns,

@@ -1,5 +1,5 @@
 // The plain derivation.
-use clearing::clear_state;
+use clearing::clear_run;
 use costs::refused;
 use costs::spent;
 use derivation::Costs;
@@ -27,7 +27,7 @@ fn derive_accepted(
     let mut s = [0; 16];
     let ran = run_plain(&mut s, password, salt, key.len(), p, matrix);
     let between = squeeze(&mut s, key);
-    let calls = clear_state(&mut s, between);
+    let calls = clear_run(&mut s, between, p.rounds);
     spent(ran.full + calls, ran.reduced, p)
 }
 

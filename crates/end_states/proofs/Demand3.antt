@@ -1,4 +1,4 @@
--- Demand 3: of two accepted recorded derivations with the same T, R and C, whatever their buffers held and however long they are,
+-- Demand 3: of two accepted recorded derivations with the same T, R, C, ρ and ω, whatever their buffers held and however long they are,
 -- whose padded inputs have equally many blocks of which at most one differs, the returned states, the used matrices and the used
 -- records are all equal exactly when passwords, salts and key lengths are. It speaks of any two calls that met the contract of
 -- `recorded::derive_recorded`. Assumes nothing.

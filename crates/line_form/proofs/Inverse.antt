@@ -9,7 +9,7 @@ use mathlib.Core.List.{List, [], _∷_, _++_}
 use lib.ListN.{length, getD, drop}
 use lib.Dec.{eqb}
 use borrow.Author.Tests.{ne-eqb}
-use Rattle.settings.specs.declared.Parameters.{Parameters}
+use Rattle.settings.specs.declared.StoredParameters.{StoredParameters}
 use Rattle.lists.proofs.EveryLaws.{every-at, every-all, same-of-equal}
 use Rattle.decimal.specs.Decimal.{decimal, isDigit, allDigits, isNumber, numberOf}
 use Rattle.decimal.proofs.Inverse.{digit-bounds, decimal-all-digits, decimal-number, number-decimal, decimal-of}

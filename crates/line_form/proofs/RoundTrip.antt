@@ -9,7 +9,7 @@ use lib.ListN.{length, take}
 use borrow.Author.Tests.{le-ltb}
 use Rattle.lists.specs.Zip.{putInto}
 use Rattle.lists.proofs.ZipLaws.{put-front}
-use Rattle.settings.specs.declared.Parameters.{Parameters}
+use Rattle.settings.specs.declared.StoredParameters.{StoredParameters}
 use Rattle.refusals.specs.Checks.{_≤?_, Check, flag, first, refuses, answered, formCheck, outputCheck, storedChecks}
 use Rattle.refusals.proofs.Accepted.{accepted, first-passed, first-refused, first-none, first-before, first-other, first-last, more-pass}
 use Rattle.refusals.proofs.Answered.{answered-yes, answered-is, answered-number}

@@ -5,7 +5,7 @@ use mathlib.Core.List.{List, [], _∷_, _++_}
 use lib.Dec.{eqb}
 use lib.ListN.{length, getD, take, drop}
 use Rattle.lists.specs.Every.{sameBytes}
-use Rattle.settings.specs.declared.Parameters.{Parameters}
+use Rattle.settings.specs.declared.StoredParameters.{StoredParameters}
 use Rattle.decimal.specs.Decimal.{decimal, isNumber, numberOf}
 use Rattle.base64.specs.Base64.{encodedLength, encode, decode, isText}
 
@@ -13,7 +13,7 @@ use Rattle.base64.specs.Base64.{encodedLength, encode, decode, isText}
 
 -- what a line says
 pub record Values : Type 0 where
-  pub parameters : Parameters
+  pub parameters : StoredParameters
   pub salt : List ℕ
   pub key : List ℕ
 
@@ -44,7 +44,7 @@ lineOf v =
     joined (decimal (v .parameters .time)) (decimal (v .parameters .rows)) (decimal (v .parameters .columns)) (encode (v .salt)) (encode (v .key))
 
 -- the length of a line, by the lengths of salt and key: the marks take 17 bytes
-unfoldable pub lengthBy : Parameters → ℕ → ℕ → ℕ
+unfoldable pub lengthBy : StoredParameters → ℕ → ℕ → ℕ
 lengthBy p salt key =
     17 + length (decimal (p .time)) + length (decimal (p .rows)) + length (decimal (p .columns)) + encodedLength salt + encodedLength key
 

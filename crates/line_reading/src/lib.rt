@@ -8,7 +8,7 @@ use refusals::OUTPUT_LENGTH;
 use refusals::below;
 use refusals::first_of;
 use refusals::stored_refusal;
-use settings::Parameters;
+use settings::StoredParameters;
 ghost use mathlib.Core.Path.{_≡_};
 ghost use Prim.Native.Nat.{_≤_};
 ghost use mathlib.Core.List.{[], _∷_};
@@ -42,7 +42,7 @@ fn answer(line: &[u8], salt_room: usize, key_room: usize) -> LineValues
     if v.refusal != 0 {
         return v;
     }
-    let p = Parameters {
+    let p = StoredParameters {
         time: v.time,
         rows: v.rows,
         columns: v.columns,

@@ -1,14 +1,14 @@
 -- What a login line is written from.
 use Prim.Native.Nat.{ℕ, _≤_, _<_}
 use mathlib.Core.List.{List}
-use Rattle.settings.specs.declared.Parameters.{Parameters}
+use Rattle.settings.specs.declared.StoredParameters.{StoredParameters}
 use Rattle.line_form.specs.Line.{Values, lengthBy}
 
-abbrev pub values : Parameters → List ℕ → List ℕ → Values
+abbrev pub values : StoredParameters → List ℕ → List ℕ → Values
 values p salt key = record { parameters = p; salt = salt; key = key }
 
 -- what the code goes by once the values are accepted
-pub record WithinLimits (p : Parameters) (salt key : ℕ) : Type 0 where
+pub record WithinLimits (p : StoredParameters) (salt key : ℕ) : Type 0 where
   pub time-most : p .time < 100000
   pub rows-most : p .rows < 100000
   pub columns-most : p .columns < 100000

@@ -6,7 +6,7 @@ use decimal::decimal_length;
 use line_form::LineLength;
 use refusals::OUTPUT_LENGTH;
 use refusals::stored_refusal;
-use settings::Parameters;
+use settings::StoredParameters;
 use text::append;
 ghost use mathlib.Core.Path.{_≡_};
 ghost use Prim.Native.Nat.{_+_, _≤_, _<_};
@@ -40,7 +40,7 @@ fn append_text(out: &mut [u8], at: usize, bytes: &[u8]) -> usize
     append_encoded(out, from, bytes)
 }
 
-fn line_length(p: Parameters, salt: usize, key: usize) -> usize
+fn line_length(p: StoredParameters, salt: usize, key: usize) -> usize
     requires { ⌜ WithinLimits p salt key ⌝ }
     ensures { λ r. ⌜ r ≡ lengthBy p salt key ⌝ }
 {
@@ -49,7 +49,7 @@ fn line_length(p: Parameters, salt: usize, key: usize) -> usize
 }
 
 // Puts the whole line at the start of an output that has room for it.
-fn put_line(p: Parameters, salt: &[u8], key: &[u8], out: &mut [u8]) -> usize
+fn put_line(p: StoredParameters, salt: &[u8], key: &[u8], out: &mut [u8]) -> usize
     requires { ⌜ WithinLimits p (length (now salt)) (length (now key)) × (lengthBy p (length (now salt)) (length (now key)) ≤ length (now out)) ⌝ }
     ensures { λ r. ⌜ Appended (now (out .entry)) (now (out .exit)) 0 (lineOf (values p (now (salt .entry)) (now (key .entry)))) r ⌝ }
 {
@@ -71,7 +71,7 @@ fn no_length(number: u32) -> LineLength
 }
 
 // Writes a line at the start of the output.
-pub fn write_line(p: Parameters, salt: &[u8], key: &[u8], line: &mut [u8]) -> LineLength
+pub fn write_line(p: StoredParameters, salt: &[u8], key: &[u8], line: &mut [u8]) -> LineLength
     ensures { λ r. ⌜ Written (values p (now (salt .entry)) (now (key .entry))) (now (line .entry)) (now (line .exit)) r ⌝ }
 {
     let number = stored_refusal(key.len(), salt.len(), p);

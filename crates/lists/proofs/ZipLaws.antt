@@ -1,6 +1,6 @@
 -- Laws of a function applied place by place: lengths, elements, one place more, and undoing. Assumes nothing.
 use mathlib.Core.Path.{_≡_, refl, sym, ap, ap₂, _∙_}
-use Prim.Native.Nat.{ℕ, zero, suc, _+_, _≤_, _<_, _^_}
+use Prim.Native.Nat.{ℕ, zero, suc, zero-le, _+_, _≤_, _<_, _^_}
 use native.Mathlib.Nat.{not-suc-le-zero, le-of-suc-le-suc, suc-inj, zero-add, suc-add, add-zero, add-suc}
 use native.Mathlib.Omega.{arith}
 use native.Mathlib.Numerals.{add-one}
@@ -106,6 +106,15 @@ module _ (f : ℕ → ℕ → ℕ) where
   zipAt-more zero xs ys j h = rw zero-add (zip-more f xs ys j h)
   zipAt-more (suc a) [] ys j h = refl
   zipAt-more (suc a) (x ∷ xs) ys j h = rw suc-add (ap (λ (l : List ℕ). x ∷ l) (zipAt-more a xs ys j h))
+
+-- what f makes of the first n words, put in their place
+pub put-zip : (f : ℕ → ℕ → ℕ) (n : ℕ) (xs ys : List ℕ) → length ys ≤ n → putInto xs (zipInto f (take n xs) ys) ≡ zipInto f xs ys
+unfolding zipInto
+put-zip f n [] ys h = refl
+put-zip f zero (x ∷ xs) [] h = refl
+put-zip f zero (x ∷ xs) (y ∷ ys) h = absurd (not-suc-le-zero h)
+put-zip f (suc n) (x ∷ xs) [] h = ap (λ (l : List ℕ). x ∷ l) (ap (putInto xs) (sym (zip-none f (take n xs))) ∙ put-zip f n xs [] zero-le ∙ zip-none f xs)
+put-zip f (suc n) (x ∷ xs) (y ∷ ys) h = ap (λ (l : List ℕ). f x y ∷ l) (put-zip f n xs ys (le-of-suc-le-suc h))
 
 pub tabulate-words : (n : ℕ) (f : ℕ → ℕ) → ((i : ℕ) → f i < 2 ^ 64) → AllWords (tabulate n f)
 unfolding tabulate

@@ -1,13 +1,16 @@
 -- Laws of the rotation and of cells. Assumes nothing.
-use mathlib.Core.Path.{_≡_, ap₂, _∙_}
+use mathlib.Core.Path.{_≡_, sym, ap, ap₂, _∙_}
 use Prim.Native.Nat.{ℕ, _+_, _-_, _%_, _<_, _≤_}
 use native.Mathlib.Omega.{arith}
 use native.Mathlib.Nat.{add-sub-cancel-left}
-use mathlib.Core.List.{List}
+use mathlib.Core.List.{List, _++_}
 use lib.ListN.{length, getD, take, drop, length-take, length-drop}
 use lib.Seq.{getD-take, getD-drop}
+use lib.Bits.{bitXor}
+use Rattle.lists.specs.Zip.{zipAt, xorInto, tabulate}
 use Rattle.lists.proofs.Words.{AllWords}
-use Rattle.lists.proofs.ZipLaws.{length-tabulate, getD-tabulate, tabulate-words}
+use Rattle.lists.proofs.ZipLaws.{length-tabulate, getD-tabulate, tabulate-words, put-zip}
+use Rattle.rate.specs.Rate.{rand}
 use Rattle.matrix.specs.Cells.{cellFrom, rotated}
 
 pub length-rotated : (ω : ℕ) (words : List ℕ) → length (rotated ω words) ≡ 12
@@ -22,6 +25,16 @@ pub rotated-words : (ω : ℕ) (words : List ℕ) → AllWords words → AllWord
 unfolding rotated
 rotated-words ω words h = tabulate-words 12 (λ k. getD words ((k + ω) % 12) 0) (λ k. h ((k + ω) % 12))
 
+-- the rotation takes the first twelve words, so that of a state is that of its output; and twelve words on, every word is in its place
+-- again
+pub rotated-state : (ω : ℕ) (s : List ℕ) → rotated (ω % 12) s ≡ rotated ω (rand s)
+unfolding rotated rand
+rotated-state ω s =
+    let around : (j : ℕ) → (j + ω % 12) % 12 ≡ (j + ω) % 12 = λ j. omega arith in
+    let inside : (j : ℕ) → (j + ω) % 12 < 12 = λ j. omega arith in
+    let word : (j : ℕ) → getD s ((j + ω % 12) % 12) 0 ≡ getD (rand s) ((j + ω) % 12) 0 = λ j. ap (λ (k : ℕ). getD s k 0) (around j) ∙ sym (getD-tabulate 12 (λ k. getD s k 0) ((j + ω) % 12) (inside j)) in
+    λ i. tabulate 12 (λ j. word j i)
+
 module _ (a : ℕ) (m : List ℕ) (fits : a + 12 ≤ length m) where
   pub length-cell : length (cellFrom a m) ≡ 12
   unfolding cellFrom
@@ -35,3 +48,8 @@ module _ (a : ℕ) (m : List ℕ) (fits : a + 12 ≤ length m) where
 pub cell-part : (a p : ℕ) (m : List ℕ) → a ≡ p → take (a + 12 - a) (drop a m) ≡ cellFrom p m
 unfolding cellFrom
 cell-part a p m e = ap₂ (λ (n k : ℕ). take n (drop k m)) (add-sub-cancel-left a 12) e
+
+-- a cell XORed with words and put back has them XORed into it
+pub put-xored : (a : ℕ) (m words : List ℕ) → length words ≡ 12 → zipAt (λ x y. y) a m (xorInto (cellFrom a m) words) ≡ zipAt bitXor a m words
+unfolding cellFrom zipAt
+put-xored a m words h = ap (λ (l : List ℕ). take a m ++ l) (put-zip bitXor 12 (drop a m) words (omega (arith, h)))

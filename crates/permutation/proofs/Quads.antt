@@ -10,6 +10,9 @@ use lib.ListN.{length, getD, drop, drop-of-length-le}
 use lib.Seq.{drop-cons}
 use Rattle.profile.specs.declared.Quad.{Quad}
 use Rattle.profile.specs.Profile.{quads}
+use Rattle.mixer.specs.G.{G}
+use Rattle.mixer.specs.Word.{plainSum}
+use Rattle.permutation.specs.Round.{applyAt}
 
 pub record Spread (q : Quad) : Type 0 where
   pub inside : (q .0 < 16) × (q .1 < 16) × (q .2 < 16) × (q .3 < 16)
@@ -41,3 +44,7 @@ module _ (f : List ℕ → Quad → List ℕ) (qs : List Quad) (n : ℕ) (s : Li
 
   pub fold-end : length qs ≤ n → foldl f s (drop n qs) ≡ s
   fold-end h = ap (foldl f s) (drop-of-length-le qs {i = n} h)
+
+-- G on a quad, in the order that a fold over the table wants
+abbrev pub step : List ℕ → Quad → List ℕ
+step s q = applyAt (G plainSum) q s

@@ -95,9 +95,3 @@ module _ {A : Addition} (u : Undoes A) where
   -- what is undone is injective
   pub rounds-inj : (n : ℕ) (s t : List ℕ) → IsState s → IsState t → rounds (A .sum) n s ≡ rounds (A .sum) n t → s ≡ t
   rounds-inj n s t hs ht e = sym (rounds-undo n s hs) ∙ ap (unrounds (A .back) n) e ∙ rounds-undo n t ht
-
--- a round and then n others
-pub round-first : (sum : ℕ → ℕ → ℕ) (n : ℕ) (s : List ℕ) → rounds sum n (round sum s) ≡ rounds sum (suc n) s
-unfolding rounds
-round-first sum zero s = refl
-round-first sum (suc n) s = ap (round sum) (round-first sum n s)

@@ -42,12 +42,18 @@ pub fn round(s: &mut [u64; 16])
     }
 }
 
+// The table's loop once more, and not `round` in a loop: so the compiler keeps the state in registers from round to round.
 pub fn rounds(s: &mut [u64; 16], n: usize)
     ensures { λ _. ⌜ now (s .exit) ≡ rounds plainSum n (now (s .entry)) ⌝ }
 {
+    let quads = Profile::quads();
     let mut k = 0;
     while k < n {
-        round(s);
+        let mut i = 0;
+        while i < 8 {
+            apply_g(s, quads[i]);
+            i += 1;
+        }
         k += 1;
     }
 }

@@ -1,10 +1,12 @@
 // Rows and columns picked by words of the output.
 use columns::Picks;
 use places::Column;
+use profile::Profile;
 use settings::Parameters;
 ghost use mathlib.Core.Path.{_≡_};
-ghost use Prim.Native.Nat.{_-_, _%_, _<_};
+ghost use Prim.Native.Nat.{_+_, _-_, _%_, _<_};
 ghost use lib.Bits.{bitAnd};
+ghost use Rattle.profile.specs.Profile.{cellWords};
 ghost use Rattle.settings.specs.Settings.{settings};
 ghost use Rattle.columns.specs.Bounds.{Picked};
 
@@ -32,13 +34,19 @@ fn picked_column(word: u64, n: usize) -> usize
     ensures { λ r. ⌜ r < n ⌝ }
 {
     match n {
-        16 => masked(word, n),
-        32 => masked(word, n),
-        64 => masked(word, n),
-        128 => masked(word, n),
-        256 => masked(word, n),
+        16 | 32 | 64 | 128 | 256 => masked(word, n),
         _ => picked(word, n),
     }
+}
+
+// The place in the output of the word that is omega after another. It depends on omega alone, so that the compiler finds it once before
+// the loop over the columns.
+pub fn place_after(place: usize, omega: usize) -> usize
+    requires { ⌜ place < cellWords ⌝ }
+    ensures { λ r. ⌜ r ≡ (place + omega) % cellWords ⌝ }
+    ensures { λ r. ⌜ r < cellWords ⌝ }
+{
+    (place + omega % Profile::CELL_WORDS) % Profile::CELL_WORDS
 }
 
 // The columns that a visit picks from the output.
@@ -46,7 +54,9 @@ pub fn pick_columns(s: &[u64; 16], p: Parameters) -> Picks
     requires { ⌜ 0 < p .columns ⌝ }
     ensures { λ r. ⌜ Picked (settings p) (now (s .entry)) r ⌝ }
 {
-    let col0 = Column(picked_column(s[4], p.columns));
-    let col1 = Column(picked_column(s[6], p.columns));
+    let second = place_after(place_after(0, p.rotation), p.rotation);
+    let third = place_after(second, p.rotation);
+    let col0 = Column(picked_column(s[second], p.columns));
+    let col1 = Column(picked_column(s[third], p.columns));
     Picks { col0, col1 }
 }

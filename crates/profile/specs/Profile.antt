@@ -7,8 +7,12 @@ use Rattle.profile.specs.declared.Quad.{Quad}
 abbrev pub fullRounds : ℕ
 fullRounds = 12
 
-abbrev pub reducedRounds : ℕ
-reducedRounds = 1
+-- the usual choice for the rounds of a reduced call and for the rotation (request 106)
+abbrev pub usualRounds : ℕ
+usualRounds = 1
+
+abbrev pub usualRotation : ℕ
+usualRotation = 2
 
 abbrev pub blockWords : ℕ
 blockWords = 8

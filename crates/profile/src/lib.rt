@@ -1,6 +1,6 @@
 // The profile: its fixed numbers, the two tables of document 01 and the starting state.
 ghost use mathlib.Core.Path.{_≡_};
-ghost use Rattle.profile.specs.Profile.{fullRounds, reducedRounds, blockWords, cellWords, quads, start};
+ghost use Rattle.profile.specs.Profile.{fullRounds, usualRounds, usualRotation, blockWords, cellWords, quads, start};
 
 // Four positions of the state.
 pub struct Quad(pub usize, pub usize, pub usize, pub usize);
@@ -34,7 +34,10 @@ pub struct Profile;
 impl Profile {
     pub const FULL_ROUNDS: usize = 12;
 
-    pub const REDUCED_ROUNDS: usize = 1;
+    // The usual choice for the rounds of a reduced call, and for the words by which a cell is rotated.
+    pub const USUAL_ROUNDS: usize = 1;
+
+    pub const USUAL_ROTATION: usize = 2;
 
     pub const BLOCK_WORDS: usize = 8;
 
@@ -43,7 +46,8 @@ impl Profile {
     // A promise and no code: the numbers are the specification's.
     fn fixed_numbers()
         ensures { λ _. do ⌜ (← ⟦Profile::FULL_ROUNDS⟧ .entry) ≡ fullRounds ⌝ }
-        ensures { λ _. do ⌜ (← ⟦Profile::REDUCED_ROUNDS⟧ .entry) ≡ reducedRounds ⌝ }
+        ensures { λ _. do ⌜ (← ⟦Profile::USUAL_ROUNDS⟧ .entry) ≡ usualRounds ⌝ }
+        ensures { λ _. do ⌜ (← ⟦Profile::USUAL_ROTATION⟧ .entry) ≡ usualRotation ⌝ }
         ensures { λ _. do ⌜ (← ⟦Profile::BLOCK_WORDS⟧ .entry) ≡ blockWords ⌝ }
         ensures { λ _. do ⌜ (← ⟦Profile::CELL_WORDS⟧ .entry) ≡ cellWords ⌝ }
     {}

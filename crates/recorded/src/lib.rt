@@ -1,5 +1,5 @@
 // The recorded derivation: the plain one, with its visits noted down and the state after the last of them.
-use clearing::clear_state;
+use clearing::clear_run;
 use costs::refused;
 use costs::spent;
 use derivation::Costs;
@@ -37,7 +37,7 @@ fn record_accepted(
     let state = s;
     let full = finish(&mut s, ran, matrix, p);
     let between = squeeze(&mut s, key);
-    let calls = clear_state(&mut s, between);
+    let calls = clear_run(&mut s, between, p.rounds);
     let costs = spent(full + calls, ran.reduced, p);
     Recording { costs, state }
 }

@@ -6,6 +6,7 @@ use lib.Dec.{ltb, eqb}
 use Rattle.settings.specs.Settings.{settings}
 use Rattle.settings.specs.Sizes.{matrixWords, recordWords}
 use Rattle.settings.specs.declared.Parameters.{Parameters}
+use Rattle.settings.specs.declared.StoredParameters.{StoredParameters}
 use Rattle.settings.specs.declared.Lengths.{Lengths}
 
 -- ---- a check: its number, and the bounds that a call has to keep
@@ -89,6 +90,13 @@ rowsCheck = range 5 3 16384
 abbrev pub columnsCheck : ℕ → Check
 columnsCheck = range 6 1 256
 
+-- ρ and ω (request 106)
+abbrev pub roundsCheck : ℕ → Check
+roundsCheck = range 13 1 12
+
+abbrev pub rotationCheck : ℕ → Check
+rotationCheck = range 14 1 11
+
 abbrev pub matrixCheck : Parameters → ℕ → Check
 matrixCheck p = atLeast 7 (matrixWords (settings p))
 
@@ -112,18 +120,18 @@ outputCheck bounds = record { number = 12; bounds = bounds }
 unfoldable pub costChecks : Lengths → Parameters → List Check
 costChecks l p =
     keyCheck (l .key) ∷ passwordCheck (l .password) ∷ shortSaltCheck (l .salt) ∷ longSaltCheck (l .salt)
-    ∷ timeCheck (p .time) ∷ rowsCheck (p .rows) ∷ columnsCheck (p .columns) ∷ []
+    ∷ timeCheck (p .time) ∷ rowsCheck (p .rows) ∷ columnsCheck (p .columns) ∷ roundsCheck (p .rounds) ∷ []
 
--- the plain derivation and the check of a key: the words of the lent matrix too
+-- the plain derivation and the check of a key: ω and the words of the lent matrix too
 unfoldable pub plainChecks : Lengths → Parameters → ℕ → List Check
-plainChecks l p matrix = costChecks l p ++ (matrixCheck p matrix ∷ [])
+plainChecks l p matrix = costChecks l p ++ (rotationCheck (p .rotation) ∷ matrixCheck p matrix ∷ [])
 
 -- the recorded derivation: the words of the lent record too
 unfoldable pub recordedChecks : Lengths → Parameters → ℕ → ℕ → List Check
 recordedChecks l p matrix visited = plainChecks l p matrix ++ (recordCheck p visited ∷ [])
 
 -- what is kept of an operator: the lengths of key and salt, T, R and C
-unfoldable pub storedChecks : ℕ → ℕ → Parameters → List Check
+unfoldable pub storedChecks : ℕ → ℕ → StoredParameters → List Check
 storedChecks key salt p =
     keyCheck key ∷ shortSaltCheck salt ∷ longSaltCheck salt ∷ timeCheck (p .time) ∷ rowsCheck (p .rows) ∷ columnsCheck (p .columns) ∷ []
 

@@ -1,6 +1,7 @@
 // When a call is turned down: the number of the first check that refuses, in the operation's order. 0 is no refusal.
 use settings::Lengths;
 use settings::Parameters;
+use settings::StoredParameters;
 ghost use mathlib.Core.Path.{_≡_};
 ghost use mathlib.Core.Bool.{cond};
 ghost use mathlib.Core.List.{[], _∷_};
@@ -30,6 +31,10 @@ pub const LINE_FORM: u32 = 11;
 
 pub const OUTPUT_LENGTH: u32 = 12;
 
+pub const ROUND_COUNT: u32 = 13;
+
+pub const ROTATION: u32 = 14;
+
 pub const MAX_KEY: usize = 1024;
 
 pub const MAX_PASSWORD: usize = 1024;
@@ -45,6 +50,10 @@ pub const MIN_ROWS: usize = 3;
 pub const MAX_ROWS: usize = 16384;
 
 pub const MAX_COLUMNS: usize = 256;
+
+pub const MAX_ROUNDS: usize = 12;
+
+pub const MAX_ROTATION: usize = 11;
 
 pub fn outside(least: usize, most: usize, x: usize) -> bool
     ensures { λ r. ⌜ r ≡ broken (between least most x) ⌝ }
@@ -65,11 +74,12 @@ pub fn first_of(refuses: bool, number: u32, later: u32) -> u32
     if refuses { number } else { later }
 }
 
-// The checks of the lengths, T, R and C, the last of them first: each says what the later ones leave to it.
+// The checks of the lengths, T, R, C and ρ, the last of them first: each says what the later ones leave to it.
 pub fn cost_refusal(l: Lengths, p: Parameters) -> u32
     ensures { λ r. ⌜ r ≡ first (costChecks l p) ⌝ }
 {
-    let later = first_of(outside(1, MAX_COLUMNS, p.columns), COLUMN_COUNT, 0);
+    let later = first_of(outside(1, MAX_ROUNDS, p.rounds), ROUND_COUNT, 0);
+    let later = first_of(outside(1, MAX_COLUMNS, p.columns), COLUMN_COUNT, later);
     let later = first_of(outside(MIN_ROWS, MAX_ROWS, p.rows), ROW_COUNT, later);
     let later = first_of(outside(0, MAX_TIME, p.time), TIME_COST, later);
     let later = first_of(outside(0, MAX_SALT, l.salt), SALT_TOO_LONG, later);
@@ -78,8 +88,9 @@ pub fn cost_refusal(l: Lengths, p: Parameters) -> u32
     first_of(outside(1, MAX_KEY, l.key), KEY_LENGTH, later)
 }
 
-// The checks of what is kept of an operator. They are those of the cost question but for the password's length, and none is too short.
-pub fn stored_refusal(key: usize, salt: usize, p: Parameters) -> u32
+// The checks of what is kept of an operator. They are those of the cost question but for the password's length and ρ: no password is
+// too short, and the usual ρ is within its limits.
+pub fn stored_refusal(key: usize, salt: usize, p: StoredParameters) -> u32
     ensures { λ r. ⌜ r ≡ first (storedChecks key salt p) ⌝ }
 {
     let l = Lengths {
@@ -87,7 +98,7 @@ pub fn stored_refusal(key: usize, salt: usize, p: Parameters) -> u32
         password: 0,
         salt,
     };
-    cost_refusal(l, p)
+    cost_refusal(l, Parameters::usual(p))
 }
 
 // Check 5 alone, of R: what the walk program asks.

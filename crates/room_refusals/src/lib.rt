@@ -1,9 +1,12 @@
-// The checks of the room in lent memory, after those of the cost question.
+// The checks that a derivation has after those of the cost question: ω, and the room in lent memory.
 use refusals::MATRIX_LENGTH;
+use refusals::MAX_ROTATION;
 use refusals::RECORD_LENGTH;
+use refusals::ROTATION;
 use refusals::below;
 use refusals::cost_refusal;
 use refusals::first_of;
+use refusals::outside;
 use settings::Lengths;
 use settings::Parameters;
 use settings::matrix_words;
@@ -11,7 +14,7 @@ ghost use mathlib.Core.Path.{_≡_};
 ghost use Prim.Native.Nat.{_+_, _*_, _≤_, _<_, _^_};
 ghost use Rattle.refusals.specs.Checks.{first, plainChecks, recordedChecks};
 
-// The checks of the cost question, then the length of the lent matrix.
+// The checks of the cost question, then ω and the length of the lent matrix.
 pub fn plain_refusal(l: Lengths, p: Parameters, matrix: usize) -> u32
     ensures { λ r. ⌜ r ≡ first (plainChecks l p matrix) ⌝ }
 {
@@ -19,7 +22,8 @@ pub fn plain_refusal(l: Lengths, p: Parameters, matrix: usize) -> u32
     if number != 0 {
         return number;
     }
-    first_of(below(matrix_words(p), matrix), MATRIX_LENGTH, 0)
+    let later = first_of(below(matrix_words(p), matrix), MATRIX_LENGTH, 0);
+    first_of(outside(1, MAX_ROTATION, p.rotation), ROTATION, later)
 }
 
 // The words that the record of n visits takes.

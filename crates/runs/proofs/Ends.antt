@@ -72,8 +72,9 @@ module _ (l : Lengths) (p : Parameters) (words : ℕ) (h : Accepted (plainChecks
   full-is = full-calls l p checks last calls
 
   -- the counts are far below a word
-  pub counts-fit : (full + between ≤ 64) × (reduced ≤ 1073741824)
-  counts-fit = (omega (arith, full-is, full-most l p checks), omega (arith, walked, reduced-most l p checks))
+  pub counts-fit : (full + between ≤ 64) × (reduced ≤ 1073741824) × (p .rounds ≤ 12)
+  unfolding plainChecks costChecks
+  counts-fit = (omega (arith, full-is, full-most l p checks), omega (arith, walked, reduced-most l p checks), omega arith)
 
   pub costs-after : {c : Costs} → c ≡ spentOn (settings p) (full + between) reduced → c ≡ costs l p
   unfolding costs

@@ -1,15 +1,16 @@
--- What a derivation goes by: what the caller gives, and what document 01 fixes now and may leave open later.
+-- What a derivation goes by: what the caller gives, and the addition of G, which document 01 fixes.
 use Prim.Native.Nat.{ℕ}
 use Rattle.mixer.specs.Word.{Addition, plain}
-use Rattle.profile.specs.Profile.{reducedRounds}
+use Rattle.profile.specs.Profile.{usualRounds, usualRotation}
 use Rattle.settings.specs.declared.Parameters.{Parameters}
+use Rattle.settings.specs.declared.StoredParameters.{StoredParameters}
 
 pub record Settings : Type 0 where
   -- T, R and C
   pub time : ℕ
   pub rows : ℕ
   pub columns : ℕ
-  -- the rounds of a reduced call, by how many words rot turns a cell, and the addition of G
+  -- ρ, the rounds of a reduced call; ω, by how many words rot turns a cell; the addition of G
   pub rounds : ℕ
   pub rotation : ℕ
   pub addition : Addition
@@ -17,4 +18,9 @@ pub record Settings : Type 0 where
 -- the settings of a call
 abbrev pub settings : Parameters → Settings
 settings p =
-    record { time = p .time; rows = p .rows; columns = p .columns; rounds = reducedRounds; rotation = 2; addition = plain }
+    record { time = p .time; rows = p .rows; columns = p .columns; rounds = p .rounds; rotation = p .rotation; addition = plain }
+
+-- T, R and C with the usual choice of the others
+abbrev pub usual : StoredParameters → Parameters
+usual p =
+    record { time = p .time; rows = p .rows; columns = p .columns; rounds = usualRounds; rotation = usualRotation }

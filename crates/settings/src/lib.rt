@@ -1,15 +1,38 @@
-// What a caller gives as numbers: T, R and C, and the lengths; and how many words of the matrix are used.
+// What a caller gives as numbers: T, R, C, ρ and ω, and the lengths; and how many words of the matrix are used.
 use profile::Profile;
 ghost use mathlib.Core.Path.{_≡_};
 ghost use Prim.Native.Nat.{_<_, _^_};
-ghost use Rattle.settings.specs.Settings.{settings};
+ghost use Rattle.settings.specs.Settings.{settings, usual};
 ghost use Rattle.settings.specs.Sizes.{matrixWords};
 
-// T, R and C.
+// T, R and C; ρ, the rounds of a reduced call, and ω, by how many words rot turns a cell.
 pub struct Parameters {
     pub time: usize,
     pub rows: usize,
     pub columns: usize,
+    pub rounds: usize,
+    pub rotation: usize,
+}
+
+// T, R and C alone, as they are kept of an operator. The others are then the usual ones.
+pub struct StoredParameters {
+    pub time: usize,
+    pub rows: usize,
+    pub columns: usize,
+}
+
+impl Parameters {
+    pub fn usual(p: StoredParameters) -> Parameters
+        ensures { λ r. ⌜ r ≡ usual p ⌝ }
+    {
+        Parameters {
+            time: p.time,
+            rows: p.rows,
+            columns: p.columns,
+            rounds: Profile::USUAL_ROUNDS,
+            rotation: Profile::USUAL_ROTATION,
+        }
+    }
 }
 
 // In bytes.

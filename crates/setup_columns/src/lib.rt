@@ -2,9 +2,11 @@
 use columns::Starts;
 use matrix::cell;
 use matrix::put_cell;
-use matrix::xor_rotated;
+use matrix::write_rotated;
+use matrix::xor_turned;
 use matrix::xored;
 use places::Column;
+use profile::Profile;
 use settings::Parameters;
 use sponge::duplex::duplex_sum3;
 use sponge::duplex::output;
@@ -25,10 +27,11 @@ fn duplex_setup(s: &mut [u64; 16], m: &[u64], rows: Starts, col: Column, p: Para
         cell(m, rows.row1, col),
         cell(m, rows.prev0, col),
         cell(m, rows.prev1, col),
+        p.rounds,
     );
 }
 
-// What it then writes.
+// What it then writes. The usual rotation is written out here, so that it pays for a comparison and no more.
 fn write_setup(
     m: &mut [u64],
     s: &[u64; 16],
@@ -42,10 +45,15 @@ fn write_setup(
 {
     let to = rows.row0.cell_start(mirror);
     let back = rows.row1.cell_start(col);
+    if p.rotation != Profile::USUAL_ROTATION {
+        let from = rows.prev0.cell_start(col);
+        write_rotated(m, from, to, back, s, p.rotation);
+        return;
+    }
     let rand = output(s);
     let words = xored(cell(m, rows.prev0, col), &rand);
     put_cell(m, to, &words);
-    xor_rotated(m, back, &rand);
+    xor_turned(m, back, &rand, Profile::USUAL_ROTATION);
 }
 
 pub fn setup_column(

@@ -8,7 +8,7 @@ use rate::xor_words;
 ghost use mathlib.Core.Path.{_≡_};
 ghost use lib.ListN.{length};
 ghost use Rattle.mixer.specs.Word.{plainSum};
-ghost use Rattle.profile.specs.Profile.{fullRounds, reducedRounds, cellWords};
+ghost use Rattle.profile.specs.Profile.{fullRounds, cellWords};
 ghost use Rattle.cell_sums.specs.CellSum.{cellSum};
 ghost use Rattle.sponge.specs.Sponge.{absorb};
 
@@ -21,29 +21,29 @@ pub fn absorb_cell(s: &mut [u64; 16], cell: &[u64])
     full_call(s);
 }
 
-// A cell, with a reduced call; the output is then words 0 to 11 of the state.
-pub fn duplex(s: &mut [u64; 16], cell: &[u64])
+// A cell, with a reduced call of n rounds; the output is then words 0 to 11 of the state.
+pub fn duplex(s: &mut [u64; 16], cell: &[u64], n: usize)
     requires { ⌜ length (now cell) ≡ cellWords ⌝ }
-    ensures { λ _. ⌜ now (s .exit) ≡ absorb plainSum reducedRounds (now (cell .entry)) (now (s .entry)) ⌝ }
+    ensures { λ _. ⌜ now (s .exit) ≡ absorb plainSum n (now (cell .entry)) (now (s .entry)) ⌝ }
 {
     xor_words(s, cell);
-    reduced_call(s);
+    reduced_call(s, n);
 }
 
 // The wordwise sum of three cells, with a reduced call.
-pub fn duplex_sum3(s: &mut [u64; 16], a: &[u64], b: &[u64], c: &[u64])
+pub fn duplex_sum3(s: &mut [u64; 16], a: &[u64], b: &[u64], c: &[u64], n: usize)
     requires { ⌜ (length (now a) ≡ cellWords) × (length (now b) ≡ cellWords) × (length (now c) ≡ cellWords) ⌝ }
-    ensures { λ _. ⌜ now (s .exit) ≡ absorb plainSum reducedRounds (cellSum (cellSum (now (a .entry)) (now (b .entry))) (now (c .entry))) (now (s .entry)) ⌝ }
+    ensures { λ _. ⌜ now (s .exit) ≡ absorb plainSum n (cellSum (cellSum (now (a .entry)) (now (b .entry))) (now (c .entry))) (now (s .entry)) ⌝ }
 {
     xor_sum3(s, a, b, c);
-    reduced_call(s);
+    reduced_call(s, n);
 }
 
 // The wordwise sum of four cells, with a reduced call.
-pub fn duplex_sum4(s: &mut [u64; 16], a: &[u64], b: &[u64], c: &[u64], d: &[u64])
+pub fn duplex_sum4(s: &mut [u64; 16], a: &[u64], b: &[u64], c: &[u64], d: &[u64], n: usize)
     requires { ⌜ (length (now a) ≡ cellWords) × (length (now b) ≡ cellWords) × (length (now c) ≡ cellWords) × (length (now d) ≡ cellWords) ⌝ }
-    ensures { λ _. ⌜ now (s .exit) ≡ absorb plainSum reducedRounds (cellSum (cellSum (cellSum (now (a .entry)) (now (b .entry))) (now (c .entry))) (now (d .entry))) (now (s .entry)) ⌝ }
+    ensures { λ _. ⌜ now (s .exit) ≡ absorb plainSum n (cellSum (cellSum (cellSum (now (a .entry)) (now (b .entry))) (now (c .entry))) (now (d .entry))) (now (s .entry)) ⌝ }
 {
     xor_sum4(s, a, b, c, d);
-    reduced_call(s);
+    reduced_call(s, n);
 }

@@ -1,16 +1,19 @@
--- Which refusal is given, and the counts, depend on lengths, T, R and C alone: two calls with the same of these get the same answer,
--- whatever their bytes and words are. Assumes nothing.
-use mathlib.Core.Path.{_≡_, sym, _∙_}
+-- Which refusal is given, and the counts, depend on lengths, T, R, C, ρ and ω alone: two calls with the same of these get the same
+-- answer, whatever their bytes and words are. The counts do not depend on ω, and what is absorbed as the input on neither ρ nor ω.
+-- Assumes nothing.
+use mathlib.Core.Path.{_≡_, refl, sym, _∙_}
 use Prim.Native.Nat.{ℕ}
 use mathlib.Core.List.{List}
 use lib.ListN.{length}
 use Rattle.settings.specs.declared.Parameters.{Parameters}
 use Rattle.settings.specs.declared.Lengths.{Lengths}
-use Rattle.input.specs.Input.{Input, lengths}
+use Rattle.settings.specs.Settings.{settings}
+use Rattle.input.specs.Input.{Input, lengths, paddedInput, inputState}
 use Rattle.refusals.specs.Checks.{first, costChecks, plainChecks, recordedChecks}
-use Rattle.derivation.specs.Answers.{costAnswer}
+use Rattle.derivation.specs.Answers.{spentOn, costs, costAnswer}
 use Rattle.derivation.specs.Contracts.{Derived, Compared, Recorded}
 use Rattle.derivation.specs.declared.Costs.{Costs}
+use Rattle.derivation.proofs.Answering.{cost-yes, accepted-number}
 
 -- the cost question takes nothing but these
 pub cost-by-lengths : (l : Lengths) (p : Parameters) (r₁ r₂ : Costs) → r₁ ≡ costAnswer (first (costChecks l p)) l p
@@ -34,3 +37,29 @@ module _ (p : Parameters) (x y : Input) (same : lengths x ≡ lengths y) (matrix
       → Recorded p x k₁ matrix₁ v₁ k₁′ m₁′ v₁′ r₁ s₁ → Recorded p y k₂ matrix₂ v₂ k₂′ m₂′ v₂′ r₂ s₂ → r₁ ≡ r₂
   recorded-by-lengths k₁ v₁ k₁′ m₁′ v₁′ k₂ v₂ k₂′ m₂′ v₂′ r₁ r₂ s₁ s₂ v d₁ d₂ =
       d₁ .answer ∙ (λ i. costAnswer (first (recordedChecks (same i) p (m i) (v i))) (same i) p) ∙ sym (d₂ .answer)
+
+-- ---- what does not depend on ρ or ω
+
+-- the same with other settings
+abbrev pub changed : ℕ → ℕ → Parameters → Parameters
+changed ρ ω p = record { time = p .time; rows = p .rows; columns = p .columns; rounds = ρ; rotation = ω }
+
+-- the cost question takes ρ and no ω
+pub cost-without-rotation : (l : Lengths) (p : Parameters) (ω : ℕ)
+    → costAnswer (first (costChecks l p)) l p ≡ costAnswer (first (costChecks l (changed (p .rounds) ω p))) l (changed (p .rounds) ω p)
+unfolding costAnswer costs spentOn costChecks
+cost-without-rotation l p ω = refl
+
+-- neither do the counts of a derivation that is carried out, checked or recorded: they are its costs
+pub counts-without-rotation : (l : Lengths) (p : Parameters) (ω n₁ n₂ : ℕ) (r₁ r₂ : Costs) → r₁ ≡ costAnswer n₁ l p → r₂ ≡ costAnswer n₂ l (changed (p .rounds) ω p)
+    → r₁ .refusal ≡ 0 → r₂ .refusal ≡ 0 → r₁ ≡ r₂
+unfolding costs spentOn
+counts-without-rotation l p ω n₁ n₂ r₁ r₂ e₁ e₂ z₁ z₂ =
+    let q = changed (p .rounds) ω p in
+    e₁ ∙ sym (cost-yes l p (accepted-number l p e₁ z₁) refl) ∙ cost-yes l q (accepted-number l q e₂ z₂) refl ∙ sym e₂
+
+-- what is absorbed as the input, and the state after it, are the same for all ρ and ω
+pub input-for-all-settings : (p : Parameters) (ρ ω : ℕ) (x : Input)
+    → (paddedInput (settings p) x ≡ paddedInput (settings (changed ρ ω p)) x) × (inputState (settings p) x ≡ inputState (settings (changed ρ ω p)) x)
+unfolding paddedInput inputState
+input-for-all-settings p ρ ω x = (refl, refl)

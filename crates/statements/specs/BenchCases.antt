@@ -7,7 +7,7 @@ use Rattle.mixer.specs.Word.{plainSum}
 use Rattle.mixer.specs.G.{G}
 use Rattle.mixer.specs.declared.Words.{Words}
 use Rattle.setup_order.specs.SetupOrder.{order, row1Of}
-use Rattle.settings.specs.Settings.{Settings}
+use Rattle.settings.specs.Settings.{Settings, usual}
 use Rattle.input.specs.Input.{Input, paddedInput}
 use Rattle.derivation.specs.Cost.{fullCost}
 use Rattle.derivation.specs.Answers.{costs}
@@ -30,5 +30,5 @@ pub record BenchCases : Type 0 where
       → (length (paddedInput S x) ≡ 64) × (getD (paddedInput S x) 63 0 ≡ 0x81)
   pub password-32 : (S : Settings) (x : Input) → length (x .salt) ≡ 8 → length (x .password) ≡ 32 → length (paddedInput S x) ≡ 128
   -- the costs: key 32, password 31, salt 8, T 1, R 3, C 1; and the full calls with password 32 and key 97
-  pub costs-30 : costs (record { key = 32; password = 31; salt = 8 }) (record { time = 1; rows = 3; columns = 1 }) ≡ record { refusal = 0; full = 2; reduced = 6; rounds = 30 }
+  pub costs-30 : costs (record { key = 32; password = 31; salt = 8 }) (usual (record { time = 1; rows = 3; columns = 1 })) ≡ record { refusal = 0; full = 2; reduced = 6; rounds = 30 }
   pub full-4 : fullCost (record { key = 97; password = 32; salt = 8 }) ≡ 4

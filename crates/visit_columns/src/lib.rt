@@ -2,10 +2,12 @@
 use columns::Picks;
 use columns::Starts;
 use matrix::cell;
+use matrix::write_rotated;
 use matrix::xor_cell;
-use matrix::xor_rotated;
+use matrix::xor_turned;
 use picks::pick_columns;
 use places::Column;
+use profile::Profile;
 use settings::Parameters;
 use sponge::duplex::duplex_sum4;
 use sponge::duplex::output;
@@ -27,19 +29,25 @@ fn duplex_visit(s: &mut [u64; 16], m: &[u64], rows: Starts, col: Column, at: Pic
         cell(m, rows.row1, col),
         cell(m, rows.prev0, at.col0),
         cell(m, rows.prev1, at.col1),
+        p.rounds,
     );
 }
 
-// What it then writes; where the two rows are one, both XORs fall on the same cell.
+// What it then writes; where the two rows are one, both XORs fall on the same cell. The usual rotation is
+// written out here, so that it pays for a comparison and no more.
 fn write_visit(m: &mut [u64], s: &[u64; 16], rows: Starts, col: Column, p: Parameters)
     requires { ⌜ (col .0 < p .columns) × Within (p .columns) rows (length (now m)) ⌝ }
     ensures { λ _. ⌜ AtRows (p .columns) rows (λ r. now (m .exit) ≡ visitWritten (settings p) r (col .0) (now (s .entry)) (now (m .entry))) ⌝ }
 {
     let a = rows.row0.cell_start(col);
     let b = rows.row1.cell_start(col);
+    if p.rotation != Profile::USUAL_ROTATION {
+        write_rotated(m, a, a, b, s, p.rotation);
+        return;
+    }
     let rand = output(s);
     xor_cell(m, a, &rand);
-    xor_rotated(m, b, &rand);
+    xor_turned(m, b, &rand, Profile::USUAL_ROTATION);
 }
 
 // A column of a visit with the columns that were picked for it; the answer is those for the next one.

@@ -3,6 +3,7 @@ use columns::Rows;
 use columns::Starts;
 use picks::pick_columns;
 use picks::picked;
+use picks::place_after;
 use places::Column;
 use places::Row;
 use settings::Parameters;
@@ -71,7 +72,7 @@ fn pick_rows(s: &[u64; 16], prev0: Row, prev1: Row, p: Parameters) -> Rows
     ensures { λ r. ⌜ (r .row0 .0 < p .rows) × (r .row1 .0 < p .rows) × (r ≡ pickedRows (settings p) (walk (work (now (s .entry)) []) (prev0 .0) (prev1 .0))) ⌝ }
 {
     let row0 = Row(picked(s[0], p.rows));
-    let row1 = Row(picked(s[2], p.rows));
+    let row1 = Row(picked(s[place_after(0, p.rotation)], p.rows));
     Rows {
         row0,
         row1,

@@ -35,9 +35,13 @@ pub struct Input<'a> {
     pub rows: usize,
     /// The number of columns C.
     pub columns: usize,
+    /// The rounds of a reduced call, ρ.
+    pub rounds: usize,
+    /// The words that the rotation goes by, ω.
+    pub rotation: usize,
 }
 
-/// The six numbers that the cost question is about.
+/// The seven numbers that the cost question is about.
 #[derive(Clone, Copy, Debug)]
 pub struct Sizes {
     /// Key length in bytes.
@@ -52,6 +56,8 @@ pub struct Sizes {
     pub rows: usize,
     /// The number of columns C.
     pub columns: usize,
+    /// The rounds of a reduced call, ρ.
+    pub rounds: usize,
 }
 
 /// The plain derivation: fills the key, and leaves zeros in the used matrix.
@@ -67,6 +73,8 @@ pub fn derive(input: Input, key: &mut [u8], matrix: &mut [u64], counts: &mut Cou
             input.time,
             input.rows,
             input.columns,
+            input.rounds,
+            input.rotation,
             key.as_mut_ptr(),
             key.len(),
             matrix.as_mut_ptr(),
@@ -97,6 +105,8 @@ pub fn derive_recorded(
             input.time,
             input.rows,
             input.columns,
+            input.rounds,
+            input.rotation,
             key.as_mut_ptr(),
             key.len(),
             matrix.as_mut_ptr(),
@@ -128,6 +138,8 @@ pub fn check(
             input.time,
             input.rows,
             input.columns,
+            input.rounds,
+            input.rotation,
             stored.as_ptr(),
             stored.len(),
             matrix.as_mut_ptr(),
@@ -149,6 +161,7 @@ pub fn cost(sizes: Sizes, counts: &mut Counts) -> u32 {
             sizes.time,
             sizes.rows,
             sizes.columns,
+            sizes.rounds,
             counts,
         )
     }

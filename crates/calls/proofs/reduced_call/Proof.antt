@@ -1,14 +1,18 @@
--- `reduced_call` meets its contract: a first round, then the others. Assumes nothing.
-use mathlib.Core.Path.{ap, _∙_}
+-- `reduced_call` meets its contract: one round, or n of them. Assumes nothing.
+use mathlib.Core.Path.{sym, ap, _∙_}
+use Prim.Native.Nat.{ℕ}
 use native.Mathlib.Omega.{arith}
+use denote.Ref.{now}
 use Rattle.mixer.specs.Word.{plainSum}
 use Rattle.permutation.specs.Round.{rounds}
-use Rattle.permutation.proofs.Undo.{round-first}
 use Rattle.calls.proofs.reduced_call.Statement.{statement}
 use Rattle.calls.proofs.reduced_call.Tie as tie
 
+returns : tie.Need-returns
+unfolding rounds
+returns c =
+    let a = c .before .before .before .args in
+    c .round .ensures ∙ ap (λ (n : ℕ). rounds plainSum n (now (a .s))) (sym (c .before .before .if1 .taken))
+
 pub reduced-call-spec : {M : Type 1} → statement M
-reduced-call-spec =
-    tie.close
-    (tie.spec (omega arith) (omega arith) (omega arith)
-    (λ c. c .rounds .ensures ∙ ap (rounds plainSum 0) (c .before .before .round .ensures) ∙ round-first plainSum 0 _))
+reduced-call-spec = tie.close (tie.spec (omega arith) (omega arith) returns (λ c. c .rounds .ensures))

@@ -15,7 +15,7 @@ returns c =
     let run = c .before .before .before .before .before .before .before .before .run-plain .ensures in
     let key = c .before .before .before .before .compare .ensures in
     record {
-      answer = cost-yes _ _ none (costs-after _ _ _ (plain-accepted _ _ _ none) (run .full) (c .before .before .clear-state .ensures .0 ∙ key .2) (run .reduced) (c .spent .ensures));
+      answer = cost-yes _ _ none (costs-after _ _ _ (plain-accepted _ _ _ none) (run .full) (c .before .before .clear-run .ensures .0 ∙ key .2) (run .reduced) (c .spent .ensures));
       same-is = answered-yes _ _ none (ap flag (key .0 ∙ ap (sameBytes _) (key-after _ _ _ (run .state-is))));
       matrix-after = answered-yes _ _ none (run .matrix-is);
     }
@@ -26,8 +26,8 @@ check-accepted-spec =
     (tie.spec (λ c κs. plain-accepted _ _ _ (c .before .before .before .before .before .before .pre)) (omega arith) (omega arith)
     (λ c.
     let run = c .before .before .before .before .before .before .before .run-plain .ensures in
-    omega (arith, counts-fit _ _ _ (plain-accepted _ _ _ (c .before .before .before .before .before .before .before .before .before .before .before .before .before .before .pre)) (run .full) (c .before .clear-state .ensures .0 ∙ c .before .before .before .compare .ensures .2) (run .reduced)))
+    omega (arith, counts-fit _ _ _ (plain-accepted _ _ _ (c .before .before .before .before .before .before .before .before .before .before .before .before .before .before .pre)) (run .full) (c .before .clear-run .ensures .0 ∙ c .before .before .before .compare .ensures .2) (run .reduced)))
     (λ c κs.
     let run = c .before .before .before .before .before .before .before .run-plain .ensures in
-    omega (arith, counts-fit _ _ _ (plain-accepted _ _ _ (c .before .before .before .before .before .before .before .before .before .before .before .before .before .before .pre)) (run .full) (c .before .clear-state .ensures .0 ∙ c .before .before .before .compare .ensures .2) (run .reduced)))
+    omega (arith, counts-fit _ _ _ (plain-accepted _ _ _ (c .before .before .before .before .before .before .before .before .before .before .before .before .before .before .pre)) (run .full) (c .before .clear-run .ensures .0 ∙ c .before .before .before .compare .ensures .2) (run .reduced)))
     (omega arith) returns)

@@ -13,7 +13,10 @@ pub cost-accepted-spec : {M : Type 1} → statement M
 unfolding costs fullCost inputBlocks costChecks
 cost-accepted-spec =
     tie.close
-    (tie.spec (omega arith) (omega arith) (λ c. omega (arith, full-most _ _ (c .before .before .pre)))
-    (λ c. omega (arith, cells-most (c .before .before .before .args .p .rows) (c .before .before .before .args .p .columns) (omega arith) (omega arith)))
-    (λ c κs. (omega arith, omega (arith, reduced-most _ _ (c .before .before .before .pre))))
-    (λ c κs. omega (arith, full-most _ _ (c .before .before .before .before .pre), reduced-most _ _ (c .before .before .before .before .pre), c .reduced-calls .ensures)) (λ c. cc))
+    (tie.spec (omega arith) (omega arith)
+    (λ c. let start = c .before .before in omega (arith, full-most (start .args .l) (start .args .p) (start .pre)))
+    (λ c. let p = c .before .before .before .args .p in omega (arith, cells-most (p .rows) (p .columns) (omega arith) (omega arith)))
+    (λ c κs. let start = c .before .before .before in (omega arith, omega (arith, reduced-most (start .args .l) (start .args .p) (start .pre))))
+    (λ c κs.
+    let start = c .before .before .before .before in
+    omega (arith, full-most (start .args .l) (start .args .p) (start .pre), reduced-most (start .args .l) (start .args .p) (start .pre), c .reduced-calls .ensures)) (λ c. cc))

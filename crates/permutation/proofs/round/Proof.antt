@@ -1,20 +1,15 @@
 -- `round` meets its contract. The loop's invariant: the rest of the table on the state now is the whole table on the first state.
 -- Assumes nothing.
 use mathlib.Core.Path.{_≡_, sym, _∙_}
-use Prim.Native.Nat.{ℕ, _≤_, _-_}
+use Prim.Native.Nat.{_≤_, _-_}
 use native.Mathlib.Omega.{arith}
-use mathlib.Core.List.{List, foldl}
+use mathlib.Core.List.{foldl}
 use lib.ListN.{drop}
-use Rattle.profile.specs.declared.Quad.{Quad}
-use Rattle.mixer.specs.G.{G}
 use Rattle.mixer.specs.Word.{plainSum}
-use Rattle.permutation.specs.Round.{round, applyAt}
-use Rattle.permutation.proofs.Quads.{quad-spread, fold-step, fold-end}
+use Rattle.permutation.specs.Round.{round}
+use Rattle.permutation.proofs.Quads.{step, quad-spread, fold-step, fold-end}
 use Rattle.permutation.proofs.round.Statement.{statement}
 use Rattle.permutation.proofs.round.Tie as tie
-
-abbrev step : List ℕ → Quad → List ℕ
-step s q = applyAt (G plainSum) q s
 
 pub round-spec : {M : Type 1} → statement M
 unfolding round

@@ -14,7 +14,7 @@ returns c =
     let last = c .before .before .before .before .before .before .before .before .finish .ensures in
     let key = c .before .before .before .before .before .squeeze .ensures in
     record {
-      answer = cost-yes _ _ none (costs-after _ _ _ (recorded-accepted _ _ _ _ none) (full-with-last run (last .0)) (c .before .clear-state .ensures .0 ∙ key .2) (run .reduced) (c .spent .ensures));
+      answer = cost-yes _ _ none (costs-after _ _ _ (recorded-accepted _ _ _ _ none) (full-with-last run (last .0)) (c .before .clear-run .ensures .0 ∙ key .2) (run .reduced) (c .spent .ensures));
       state-is = answered-yes _ _ none (state-after run);
       key-after = answered-yes _ _ none (key .0 ∙ key-after _ _ _ (finished run (last .1)));
       matrix-after = answered-yes _ _ none (matrix-after run);
@@ -28,8 +28,8 @@ record-accepted-spec =
     (λ c κs. can-finish (c .before .before .before .before .before .before .run .ensures) (recorded-accepted _ _ _ _ (c .before .before .before .before .before .before .before .before .before .before .before .before .before .before .before .pre)) (omega (arith, c .before .before .before .before .before .before .run .kept))) (omega arith) (omega arith)
     (λ c.
     let run = c .before .before .before .before .before .before .before .before .before .before .before .before .before .before .run .ensures in
-    omega (arith, counts-fit _ _ _ (recorded-accepted _ _ _ _ (c .before .before .before .before .before .before .before .before .before .before .before .before .before .before .before .before .before .before .before .before .before .before .before .pre)) (full-with-last run (c .before .before .before .before .before .before .before .finish .ensures .0)) (c .clear-state .ensures .0 ∙ c .before .before .before .before .squeeze .ensures .2) (run .reduced)))
+    omega (arith, counts-fit _ _ _ (recorded-accepted _ _ _ _ (c .before .before .before .before .before .before .before .before .before .before .before .before .before .before .before .before .before .before .before .before .before .before .before .pre)) (full-with-last run (c .before .before .before .before .before .before .before .finish .ensures .0)) (c .clear-run .ensures .0 ∙ c .before .before .before .before .squeeze .ensures .2) (run .reduced)))
     (λ c κs.
     let run = c .before .before .before .before .before .before .before .before .before .before .before .before .before .before .run .ensures in
-    omega (arith, counts-fit _ _ _ (recorded-accepted _ _ _ _ (c .before .before .before .before .before .before .before .before .before .before .before .before .before .before .before .before .before .before .before .before .before .before .before .pre)) (full-with-last run (c .before .before .before .before .before .before .before .finish .ensures .0)) (c .clear-state .ensures .0 ∙ c .before .before .before .before .squeeze .ensures .2) (run .reduced)))
+    omega (arith, counts-fit _ _ _ (recorded-accepted _ _ _ _ (c .before .before .before .before .before .before .before .before .before .before .before .before .before .before .before .before .before .before .before .before .before .before .before .pre)) (full-with-last run (c .before .before .before .before .before .before .before .finish .ensures .0)) (c .clear-run .ensures .0 ∙ c .before .before .before .before .squeeze .ensures .2) (run .reduced)))
     (omega arith) (omega arith) (omega arith) returns)
