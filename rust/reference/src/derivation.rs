@@ -3,6 +3,7 @@
 use crate::input::{absorb_input, padded_input, Parameters};
 use crate::matrix::{Column, Matrix};
 use crate::refusal::{self, Refusal};
+use crate::settings::Settings;
 use crate::setup::setup;
 use crate::sponge::{Counts, Sponge, State, CELL_WORDS};
 use crate::visits::{visit_all, Rows};
@@ -23,6 +24,8 @@ pub struct Inputs<'a> {
     pub r: u64,
     /// The number of columns C.
     pub c: u64,
+    /// The settings.
+    pub settings: Settings,
 }
 
 impl Inputs<'_> {
@@ -65,7 +68,8 @@ pub fn derive_recorded(
     matrix: &mut [u64],
     record: &mut [u64],
 ) -> Result<Recorded, Refusal> {
-    refusal::check_record(&inputs.parameters(key.len()), matrix, record)?;
+    let given = inputs.parameters(key.len());
+    refusal::check_record(&given, inputs.settings, matrix, record)?;
     let mut places = record.iter_mut();
     let mut note = |number: usize| {
         if let Some(place) = places.next() {
@@ -77,14 +81,14 @@ pub fn derive_recorded(
 
 /// The plain derivation: fills the key and leaves zeros in the used matrix.
 pub fn derive(inputs: &Inputs, key: &mut [u8], matrix: &mut [u64]) -> Result<Counts, Refusal> {
-    refusal::check_matrix(&inputs.parameters(key.len()), matrix)?;
+    refusal::check_matrix(&inputs.parameters(key.len()), inputs.settings, matrix)?;
     Ok(run_and_wipe(inputs, key, matrix))
 }
 
 /// The check: derives a key as long as the stored one, says whether they are equal, and leaves zeros in the
 /// used matrix.
 pub fn check(inputs: &Inputs, stored: &[u8], matrix: &mut [u64]) -> Result<Checked, Refusal> {
-    refusal::check_matrix(&inputs.parameters(stored.len()), matrix)?;
+    refusal::check_matrix(&inputs.parameters(stored.len()), inputs.settings, matrix)?;
     let mut key = vec![0; stored.len()];
     let counts = run_and_wipe(inputs, &mut key, matrix);
     let matches = equal(&key, stored);
@@ -106,20 +110,22 @@ fn run(
     lent: &mut [u64],
     note: &mut impl FnMut(usize),
 ) -> Recorded {
+    let Settings { rho, omega } = inputs.settings;
+    let omega = omega as usize;
     let parameters = inputs.parameters(key.len());
-    let mut sponge = Sponge::start();
+    let mut sponge = Sponge::start(rho);
     let input = padded_input(inputs.password, inputs.salt, &parameters);
     absorb_input(&mut sponge, &input);
 
     let mut matrix = Matrix::new(lent, inputs.r as usize, inputs.c as usize);
-    let walk = setup(&mut sponge, &mut matrix);
+    let walk = setup(&mut sponge, &mut matrix, omega);
 
     let after_setup = Rows {
         row0: walk.prev0(),
         row1: walk.prev1(),
     };
     let visits = inputs.r * inputs.t;
-    let last = visit_all(&mut sponge, &mut matrix, visits, after_setup, note);
+    let last = visit_all(&mut sponge, &mut matrix, visits, after_setup, omega, note);
     let state = sponge.state();
 
     sponge.absorb_cell(&matrix.cell(last.row0, Column(0)));

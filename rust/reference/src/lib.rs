@@ -6,6 +6,7 @@
 //!
 //! | file | lines of Algorithm 2 |
 //! |---|---|
+//! | `settings` | those of the parameters ρ and ω |
 //! | `input` | 1 to 3 |
 //! | `walk` | 4, 5 and 16 to 20 |
 //! | `setup` | 6 to 15 |
@@ -18,9 +19,10 @@
 //! or check ends with zeros in the used matrix (request #104); only the recorded derivation keeps its end matrix.
 //!
 //! ```
-//! use lyra2_reference::{check, derive, Inputs, Refusal};
+//! use lyra2_reference::{check, derive, Inputs, Refusal, Settings};
 //!
-//! let inputs = Inputs { password: b"password", salt: b"saltsalt", t: 1, r: 8, c: 4 };
+//! let settings = Settings::USUAL;
+//! let inputs = Inputs { password: b"password", salt: b"saltsalt", t: 1, r: 8, c: 4, settings };
 //! let mut key = [0; 32];
 //! let mut matrix = vec![0; 12 * 8 * 4];
 //! derive(&inputs, &mut key, &mut matrix)?;
@@ -39,6 +41,7 @@ pub mod input;
 pub mod line;
 mod matrix;
 pub mod refusal;
+pub mod settings;
 mod setup;
 pub mod sponge;
 pub mod vectors;
@@ -50,5 +53,6 @@ pub use derivation::{check, derive, derive_recorded, Checked, Inputs, Recorded};
 pub use input::Parameters;
 pub use line::{line_read, line_write, LineParts, LineValues};
 pub use refusal::Refusal;
+pub use settings::Settings;
 pub use sponge::Counts;
 pub use walk::{walk, walk_program};

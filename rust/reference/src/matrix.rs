@@ -94,7 +94,13 @@ pub fn sum(x: &Cell, y: &Cell) -> Cell {
     std::array::from_fn(|j| x[j].wrapping_add(y[j]))
 }
 
-/// The rotation by two words.
-pub fn rot(x: &Cell) -> Cell {
-    std::array::from_fn(|j| x[(j + 2) % CELL_WORDS])
+/// The rotation by ω words: the first words go last.
+pub fn rot(x: &Cell, omega: usize) -> Cell {
+    std::array::from_fn(|j| x[(j + omega) % CELL_WORDS])
+}
+
+/// The word of rand by which pick number k goes, the first word of the k times rotated rand: 0 is for row0, 1 for row1,
+/// 2 for col0 and 3 for col1.
+pub fn picking_word(rand: &Cell, k: usize, omega: usize) -> u64 {
+    rand[k * omega % CELL_WORDS]
 }

@@ -1,6 +1,7 @@
 //! The refusals: their numbers, their sentences, the limits behind them, and each operation's order of checks.
 
 use crate::input::Parameters;
+use crate::settings::Settings;
 use std::fmt;
 use std::ops::RangeInclusive;
 
@@ -16,6 +17,10 @@ pub const TIME_COSTS: RangeInclusive<u64> = 0..=255;
 pub const ROWS: RangeInclusive<u64> = 3..=16_384;
 /// Values of C that are accepted.
 pub const COLUMNS: RangeInclusive<u64> = 1..=256;
+/// Values of ρ that are accepted.
+pub const ROUNDS: RangeInclusive<u64> = 1..=12;
+/// Values of ω that are accepted.
+pub const ROTATIONS: RangeInclusive<u64> = 1..=11;
 
 /// Makes the refusals from a list that has each of them once, in the order of the numbers: its meaning, its
 /// name, its number and its sentence.
@@ -67,6 +72,10 @@ refusals! {
     LineForm = 11, "the line must be of the form $lyra2$t=T,r=R,c=C$SALT$KEY";
     /// A lent output is too short for what would be put there.
     OutputTooShort = 12, "the lent outputs must have room for what is put there";
+    /// ρ is outside its limits.
+    Rounds = 13, "a reduced call must have 1 to 12 rounds";
+    /// ω is outside its limits.
+    Rotation = 14, "the rotation must be by 1 to 11 words";
 }
 
 impl Refusal {
@@ -100,6 +109,8 @@ pub const RECORDED_CHECKS: &[Refusal] = &[
     Refusal::TimeCost,
     Refusal::Rows,
     Refusal::Columns,
+    Refusal::Rounds,
+    Refusal::Rotation,
     Refusal::MatrixWords,
     Refusal::RecordWords,
 ];
@@ -113,6 +124,8 @@ pub const PLAIN_CHECKS: &[Refusal] = &[
     Refusal::TimeCost,
     Refusal::Rows,
     Refusal::Columns,
+    Refusal::Rounds,
+    Refusal::Rotation,
     Refusal::MatrixWords,
 ];
 
@@ -125,6 +138,7 @@ pub const COST_CHECKS: &[Refusal] = &[
     Refusal::TimeCost,
     Refusal::Rows,
     Refusal::Columns,
+    Refusal::Rounds,
 ];
 
 /// The checks of the walk question.
@@ -162,7 +176,7 @@ fn demand(holds: bool, refusal: Refusal) -> Result<(), Refusal> {
     }
 }
 
-/// The checks of the cost question: the six numbers of the input against their limits.
+/// The six numbers of the input against their limits.
 pub fn check_parameters(given: &Parameters) -> Result<(), Refusal> {
     demand(KEY_LENGTHS.contains(&given.key_len), Refusal::KeyLength)?;
     let password_fits = PASSWORD_LENGTHS.contains(&given.password_len);
@@ -175,16 +189,28 @@ pub fn check_parameters(given: &Parameters) -> Result<(), Refusal> {
     demand(COLUMNS.contains(&given.c), Refusal::Columns)
 }
 
-/// The checks of the plain derivation and of the check: the six numbers, then the matrix.
-pub fn check_matrix(given: &Parameters, matrix: &[u64]) -> Result<(), Refusal> {
+/// The checks of the cost question: the six numbers, then ρ.
+pub fn check_cost(given: &Parameters, rho: u64) -> Result<(), Refusal> {
     check_parameters(given)?;
+    demand(ROUNDS.contains(&rho), Refusal::Rounds)
+}
+
+/// The checks of the plain derivation and of the check: the six numbers, ρ, ω, then the matrix.
+pub fn check_matrix(given: &Parameters, settings: Settings, matrix: &[u64]) -> Result<(), Refusal> {
+    check_cost(given, settings.rho)?;
+    demand(ROTATIONS.contains(&settings.omega), Refusal::Rotation)?;
     let enough = matrix.len() as u64 >= given.matrix_words();
     demand(enough, Refusal::MatrixWords)
 }
 
-/// The checks of the recorded derivation: the six numbers, the matrix, then the record.
-pub fn check_record(given: &Parameters, matrix: &[u64], record: &[u64]) -> Result<(), Refusal> {
-    check_matrix(given, matrix)?;
+/// The checks of the recorded derivation: those of the plain one, then the record.
+pub fn check_record(
+    given: &Parameters,
+    settings: Settings,
+    matrix: &[u64],
+    record: &[u64],
+) -> Result<(), Refusal> {
+    check_matrix(given, settings, matrix)?;
     let enough = record.len() as u64 >= given.record_words();
     demand(enough, Refusal::RecordWords)
 }

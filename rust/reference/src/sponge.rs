@@ -8,8 +8,6 @@ pub const BLOCK_WORDS: usize = 8;
 pub const CELL_WORDS: usize = 12;
 /// Rounds of a full call.
 pub const FULL_ROUNDS: u64 = 12;
-/// Rounds of a reduced call.
-pub const REDUCED_ROUNDS: u64 = 1;
 
 /// BLAKE2b's initialization vector, the upper half of the starting state.
 pub const STARTING_WORDS: [u64; 8] = [
@@ -76,15 +74,21 @@ pub struct Counts {
 pub struct Sponge {
     state: State,
     counts: Counts,
+    reduced_rounds: u64,
 }
 
 impl Sponge {
-    /// The starting state: eight zero words, then BLAKE2b's initialization vector.
-    pub fn start() -> Sponge {
+    /// The starting state: eight zero words, then BLAKE2b's initialization vector. A reduced call will have this
+    /// many rounds, ρ in the pseudocode.
+    pub fn start(reduced_rounds: u64) -> Sponge {
         let mut state = [0; STATE_WORDS];
         state[8..].copy_from_slice(&STARTING_WORDS);
         let counts = Counts::default();
-        Sponge { state, counts }
+        Sponge {
+            state,
+            counts,
+            reduced_rounds,
+        }
     }
 
     /// The whole state.
@@ -110,10 +114,10 @@ impl Sponge {
         self.permute(FULL_ROUNDS);
     }
 
-    /// A call of one round.
+    /// A call of ρ rounds.
     pub fn reduced_call(&mut self) {
         self.counts.reduced += 1;
-        self.permute(REDUCED_ROUNDS);
+        self.permute(self.reduced_rounds);
     }
 
     /// Absorbs a block of the padded input.

@@ -1,6 +1,6 @@
 //! The visits (Wandering phase): R·T pairs of rows that the output picks (Algorithm 2, lines 22 to 32).
 
-use crate::matrix::{rot, sum, Matrix, Row};
+use crate::matrix::{picking_word, rot, sum, Matrix, Row};
 use crate::sponge::Sponge;
 
 /// The two rows of a visit.
@@ -13,24 +13,25 @@ pub struct Rows {
 }
 
 /// Makes the visits, notes down each row and column number, and returns the rows of the last visit,
-/// or Setup's last rows where no visit is made.
+/// or Setup's last rows where no visit is made. Rotation and picks go by ω.
 pub fn visit_all(
     sponge: &mut Sponge,
     matrix: &mut Matrix,
     visits: u64,
     after_setup: Rows,
+    omega: usize,
     note: &mut impl FnMut(usize),
 ) -> Rows {
     let mut prev = after_setup;
     for _ in 0..visits {
         let rand = sponge.rand();
         let rows = Rows {
-            row0: matrix.row_from(rand[0]),
-            row1: matrix.row_from(rand[2]),
+            row0: matrix.row_from(picking_word(&rand, 0, omega)),
+            row1: matrix.row_from(picking_word(&rand, 1, omega)),
         };
         note(rows.row0.0);
         note(rows.row1.0);
-        visit(sponge, matrix, rows, prev, note);
+        visit(sponge, matrix, rows, prev, omega, note);
         prev = rows;
     }
     prev
@@ -42,18 +43,19 @@ fn visit(
     matrix: &mut Matrix,
     rows: Rows,
     prev: Rows,
+    omega: usize,
     note: &mut impl FnMut(usize),
 ) {
     for col in matrix.columns() {
         let rand = sponge.rand();
-        let col0 = matrix.column_from(rand[4]);
-        let col1 = matrix.column_from(rand[6]);
+        let col0 = matrix.column_from(picking_word(&rand, 2, omega));
+        let col1 = matrix.column_from(picking_word(&rand, 3, omega));
         note(col0.0);
         note(col1.0);
         let visited = sum(&matrix.cell(rows.row0, col), &matrix.cell(rows.row1, col));
         let previous = sum(&matrix.cell(prev.row0, col0), &matrix.cell(prev.row1, col1));
         let rand = sponge.duplex(&sum(&visited, &previous));
         matrix.xor_into(rows.row0, col, &rand);
-        matrix.xor_into(rows.row1, col, &rot(&rand));
+        matrix.xor_into(rows.row1, col, &rot(&rand, omega));
     }
 }

@@ -3,7 +3,9 @@
 use lyra2_reference::input::padded_input;
 use lyra2_reference::sponge::g;
 use lyra2_reference::walk::SetupWalk;
-use lyra2_reference::{check, cost, derive, derive_recorded, walk, Counts, Inputs, Parameters};
+use lyra2_reference::{
+    check, cost, derive, derive_recorded, walk, Counts, Inputs, Parameters, Settings,
+};
 
 const SALT: [u8; 8] = [0xc3; 8];
 
@@ -103,8 +105,8 @@ fn counts_of_two_small_derivations() {
         reduced: 6,
         rounds: 30,
     };
-    assert_eq!(cost(&parameters(32, 31)), Ok(small));
-    assert_eq!(cost(&parameters(97, 32)).unwrap().full, 4);
+    assert_eq!(cost(&parameters(32, 31), 1), Ok(small));
+    assert_eq!(cost(&parameters(97, 32), 1).unwrap().full, 4);
 
     let inputs = |password| Inputs {
         password,
@@ -112,6 +114,7 @@ fn counts_of_two_small_derivations() {
         t: 1,
         r: 3,
         c: 1,
+        settings: Settings::USUAL,
     };
     let counts = derive(&inputs(&[7; 31]), &mut [0; 32], &mut [0; 36]);
     assert_eq!(counts, Ok(small));
@@ -127,13 +130,14 @@ fn accept(password_len: usize, salt_len: usize, key_len: usize, t: u64, r: u64, 
         t,
         r,
         c,
+        settings: Settings::USUAL,
     };
     let given = inputs.parameters(key_len);
     let mut key = vec![0; key_len];
     let mut matrix = vec![0; given.matrix_words() as usize];
     let mut record = vec![0; given.record_words() as usize];
     let recorded = derive_recorded(&inputs, &mut key, &mut matrix, &mut record).unwrap();
-    assert_eq!(cost(&given), Ok(recorded.counts));
+    assert_eq!(cost(&given, 1), Ok(recorded.counts));
     assert_eq!(derive(&inputs, &mut key, &mut matrix), Ok(recorded.counts));
     let answer = check(&inputs, &key, &mut matrix).unwrap();
     assert!(answer.matches);

@@ -1,7 +1,8 @@
 //! The derivations: what they leave in the lent buffers, and how they agree with one another.
 
+use lyra2_reference::refusal::{ROTATIONS, ROUNDS};
 use lyra2_reference::sponge::round;
-use lyra2_reference::{check, cost, derive, derive_recorded, Inputs, Recorded};
+use lyra2_reference::{check, cost, derive, derive_recorded, Inputs, Recorded, Settings};
 
 /// The end of a recorded derivation: its answer and the lent buffers.
 struct End {
@@ -25,14 +26,35 @@ const SHAPES: [(u64, u64, u64); 10] = [
     (1, 100, 16),
 ];
 
-fn inputs((t, r, c): (u64, u64, u64)) -> Inputs<'static> {
+/// ρ and ω, each at its limits, the usual choice first.
+const SETTINGS: [(u64, u64); 6] = [(1, 2), (1, 1), (1, 11), (12, 1), (12, 11), (3, 6)];
+
+fn inputs(shape: (u64, u64, u64)) -> Inputs<'static> {
+    inputs_with(shape, Settings::USUAL)
+}
+
+fn inputs_with((t, r, c): (u64, u64, u64), settings: Settings) -> Inputs<'static> {
     Inputs {
         password: b"correct horse battery staple",
         salt: b"0123456789abcdef",
         t,
         r,
         c,
+        settings,
     }
+}
+
+/// The inputs of every shape with each of the settings.
+fn all_inputs() -> Vec<Inputs<'static>> {
+    let with_each =
+        |shape| SETTINGS.map(|(rho, omega)| inputs_with(shape, Settings { rho, omega }));
+    SHAPES.into_iter().flat_map(with_each).collect()
+}
+
+/// Every setting that is accepted.
+fn all_settings() -> Vec<Settings> {
+    let with_each = |rho| ROTATIONS.map(move |omega| Settings { rho, omega });
+    ROUNDS.flat_map(with_each).collect()
 }
 
 /// Derives into buffers with some words to spare, filled with a number beforehand.
@@ -52,9 +74,9 @@ fn end(inputs: &Inputs, key_len: usize, spare: usize, fill: u64) -> End {
 
 #[test]
 fn words_past_the_used_parts_stay() {
-    for shape in SHAPES {
+    for inputs in all_inputs() {
         for spare in [1, 11, 12, 1000] {
-            let end = end(&inputs(shape), 32, spare, 0xabcd);
+            let end = end(&inputs, 32, spare, 0xabcd);
             let used_matrix = end.matrix.len() - spare;
             let used_record = end.record.len() - spare;
             assert!(end.matrix[used_matrix..].iter().all(|&w| w == 0xabcd));
@@ -69,9 +91,9 @@ fn words_past_the_used_parts_stay() {
 
 #[test]
 fn earlier_contents_of_the_buffers_do_not_matter() {
-    for shape in SHAPES {
-        let zeros = end(&inputs(shape), 100, 0, 0);
-        let ones = end(&inputs(shape), 100, 0, u64::MAX);
+    for inputs in all_inputs() {
+        let zeros = end(&inputs, 100, 0, 0);
+        let ones = end(&inputs, 100, 0, u64::MAX);
         assert_eq!(zeros.key, ones.key);
         assert_eq!(zeros.matrix, ones.matrix);
         assert_eq!(zeros.record, ones.record);
@@ -94,8 +116,7 @@ fn assert_wiped(inputs: &Inputs, matrix: &[u64], before: &[u64]) {
 
 #[test]
 fn plain_derivation_check_and_cost_agree_with_the_recorded_derivation() {
-    for shape in SHAPES {
-        let inputs = inputs(shape);
+    for inputs in all_inputs() {
         let end = end(&inputs, 97, 5, 7);
         let mut key = [0; 97];
         let before = words_before(end.matrix.len());
@@ -110,7 +131,8 @@ fn plain_derivation_check_and_cost_agree_with_the_recorded_derivation() {
         assert!(checked.matches);
         assert_eq!(checked.counts, counts);
         assert_wiped(&inputs, &matrix, &before);
-        assert_eq!(cost(&inputs.parameters(97)), Ok(counts));
+        let rho = inputs.settings.rho;
+        assert_eq!(cost(&inputs.parameters(97), rho), Ok(counts));
     }
 }
 
@@ -193,8 +215,9 @@ fn check_takes_the_key_length_from_the_stored_key() {
 
 #[test]
 fn state_matrix_and_record_give_the_key() {
-    for (t, r, c) in SHAPES {
-        let end = end(&inputs((t, r, c)), 200, 0, 0);
+    for inputs in all_inputs() {
+        let (r, c) = (inputs.r, inputs.c);
+        let end = end(&inputs, 200, 0, 0);
         let mut state = end.answer.state;
         // Row 0 of the last visit; without visits it is the row that Setup filled last.
         let visits = end.record.chunks(2 + 2 * c as usize);
@@ -217,8 +240,9 @@ fn state_matrix_and_record_give_the_key() {
 
 #[test]
 fn record_holds_rows_and_columns_of_the_matrix() {
-    for (t, r, c) in SHAPES {
-        let end = end(&inputs((t, r, c)), 32, 0, u64::MAX);
+    for inputs in all_inputs() {
+        let (t, r, c) = (inputs.t, inputs.r, inputs.c);
+        let end = end(&inputs, 32, 0, u64::MAX);
         let visits: Vec<_> = end.record.chunks(2 + 2 * c as usize).collect();
         assert_eq!(visits.len() as u64, r * t);
         for visit in visits {
@@ -236,6 +260,7 @@ fn every_input_changes_the_key() {
         t: 1,
         r: 4,
         c: 2,
+        settings: Settings::USUAL,
     };
     let mut keys = vec![end(&base, 32, 0, 0).key];
     for bit in 0..8 * 40 {
@@ -267,8 +292,53 @@ fn every_input_changes_the_key() {
         let inputs = Inputs { t, r, c, ..base };
         keys.push(end(&inputs, 32, 0, 0).key);
     }
+    for settings in all_settings() {
+        if settings != Settings::USUAL {
+            let inputs = Inputs { settings, ..base };
+            keys.push(end(&inputs, 32, 0, 0).key);
+        }
+    }
     let count = keys.len();
     keys.sort_unstable();
     keys.dedup();
     assert_eq!(keys.len(), count);
+}
+
+#[test]
+fn a_reduced_call_counts_as_many_rounds_as_it_has() {
+    for settings in all_settings() {
+        let inputs = inputs_with((2, 5, 3), settings);
+        let counts = end(&inputs, 97, 0, 0).answer.counts;
+        // Two blocks of input and two pieces of key; 5·3 cells, filled once and visited twice.
+        assert_eq!((counts.full, counts.reduced), (4, 45));
+        assert_eq!(counts.rounds, 48 + settings.rho * 45, "{settings:?}");
+    }
+}
+
+/// The cell that is written first holds the state after the input, and without visits nobody touches it again.
+#[test]
+fn no_setting_is_part_of_the_input() {
+    let first_cell = |settings| {
+        let end = end(&inputs_with((0, 3, 2), settings), 32, 0, 0);
+        end.matrix[12..24].to_vec()
+    };
+    let usual = first_cell(Settings::USUAL);
+    for settings in all_settings() {
+        assert_eq!(first_cell(settings), usual, "{settings:?}");
+    }
+}
+
+/// Three rows without visits need neither a rotation nor a pick.
+#[test]
+fn the_rotation_does_not_matter_where_nothing_is_rotated() {
+    for shape in [(0, 3, 1), (0, 3, 5)] {
+        let key = |settings| end(&inputs_with(shape, settings), 32, 0, 0).key;
+        for settings in all_settings() {
+            let usual = Settings {
+                omega: Settings::USUAL.omega,
+                ..settings
+            };
+            assert_eq!(key(settings), key(usual), "{settings:?}");
+        }
+    }
 }

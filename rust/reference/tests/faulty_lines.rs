@@ -444,8 +444,8 @@ impl Subject for Faulty {
         Reference.check(inputs, stored, matrix)
     }
 
-    fn cost(&self, given: &Parameters) -> Result<Counts, Refusal> {
-        Reference.cost(given)
+    fn cost(&self, given: &Parameters, rho: u64) -> Result<Counts, Refusal> {
+        Reference.cost(given, rho)
     }
 
     fn walk(&self, r: u64, row0: u64) -> Result<u64, Refusal> {

@@ -3,10 +3,13 @@
 
 mod common;
 
-use lyra2_reference::refusal::{check_matrix, check_parameters, check_record, PLAIN_CHECKS};
+use lyra2_reference::refusal::{
+    check_cost, check_matrix, check_record, COST_CHECKS, PLAIN_CHECKS, RECORDED_CHECKS, ROTATIONS,
+    ROUNDS,
+};
 use lyra2_reference::vectors::{run, write, Answer, Case, Coverage, Question, Reference, Subject};
 use lyra2_reference::{
-    Checked, Counts, Inputs, LineParts, LineValues, Parameters, Recorded, Refusal,
+    Checked, Counts, Inputs, LineParts, LineValues, Parameters, Recorded, Refusal, Settings,
 };
 
 #[derive(Clone, Copy, Debug, PartialEq, Eq)]
@@ -128,8 +131,8 @@ impl Subject for Faulty {
         Ok(checked)
     }
 
-    fn cost(&self, given: &Parameters) -> Result<Counts, Refusal> {
-        let mut counts = Reference.cost(given)?;
+    fn cost(&self, given: &Parameters, rho: u64) -> Result<Counts, Refusal> {
+        let mut counts = Reference.cost(given, rho)?;
         let fills = (given.password_len + given.salt_len + 24).is_multiple_of(64);
         if self.0 == CostOfNoPadding && fills {
             counts.full -= 1;
@@ -240,8 +243,8 @@ impl Subject for Partial {
         self.0.check(inputs, stored, matrix)
     }
 
-    fn cost(&self, given: &Parameters) -> Result<Counts, Refusal> {
-        self.0.cost(given)
+    fn cost(&self, given: &Parameters, rho: u64) -> Result<Counts, Refusal> {
+        self.0.cost(given, rho)
     }
 
     fn walk(&self, r: u64, row0: u64) -> Result<u64, Refusal> {
@@ -282,16 +285,61 @@ fn a_partial_program_is_held_against_what_it_has() {
     }
 }
 
+/// The operations that derive a key or foretell what that costs.
+const OPS: [&str; 4] = ["derive_recorded", "derive", "check", "cost"];
+
+/// What the checks of a call look at, but for the record.
+struct Asked {
+    given: Parameters,
+    settings: Settings,
+    matrix_words: u64,
+}
+
+impl Asked {
+    fn new(inputs: &Inputs, key_len: usize, matrix: &[u64]) -> Asked {
+        Asked {
+            given: inputs.parameters(key_len),
+            settings: inputs.settings,
+            matrix_words: matrix.len() as u64,
+        }
+    }
+
+    fn has_wrong_rounds(&self) -> bool {
+        !ROUNDS.contains(&self.settings.rho)
+    }
+
+    fn has_wrong_rotation(&self) -> bool {
+        !ROTATIONS.contains(&self.settings.omega)
+    }
+
+    fn has_short_matrix(&self) -> bool {
+        self.matrix_words < self.given.matrix_words()
+    }
+}
+
 /// A wrong rule of refusal: to some calls it gives another answer than the one that is due.
 #[derive(Clone, Copy)]
 struct WrongRule {
     name: &'static str,
     due: Result<(), Refusal>,
-    calls: fn(&Parameters) -> bool,
+    calls: fn(&Asked) -> bool,
     answer: Refusal,
 }
 
-const WRONG_RULES: [WrongRule; 7] = [
+impl WrongRule {
+    /// Whether an operation has the checks that the rule is about.
+    fn concerns(&self, op: &str) -> bool {
+        let checks = match op {
+            "derive_recorded" => RECORDED_CHECKS,
+            "cost" => COST_CHECKS,
+            _ => PLAIN_CHECKS,
+        };
+        let due = self.due.err().unwrap_or(self.answer);
+        checks.contains(&due) && checks.contains(&self.answer)
+    }
+}
+
+const WRONG_RULES: [WrongRule; 19] = [
     WrongRule {
         name: "a long salt is answered as a short one",
         due: Err(Refusal::SaltTooLong),
@@ -307,32 +355,104 @@ const WRONG_RULES: [WrongRule; 7] = [
     WrongRule {
         name: "the longest salt is refused",
         due: Ok(()),
-        calls: |given| given.salt_len == 64,
+        calls: |asked| asked.given.salt_len == 64,
         answer: Refusal::SaltTooLong,
     },
     WrongRule {
         name: "the shortest salt is refused",
         due: Ok(()),
-        calls: |given| given.salt_len == 8,
+        calls: |asked| asked.given.salt_len == 8,
         answer: Refusal::SaltTooShort,
     },
     WrongRule {
         name: "a long salt comes after T",
         due: Err(Refusal::SaltTooLong),
-        calls: |given| given.t > 255,
+        calls: |asked| asked.given.t > 255,
         answer: Refusal::TimeCost,
     },
     WrongRule {
         name: "a long salt comes before the password",
         due: Err(Refusal::PasswordLength),
-        calls: |given| given.salt_len > 64,
+        calls: |asked| asked.given.salt_len > 64,
         answer: Refusal::SaltTooLong,
     },
     WrongRule {
         name: "the length of the salt is cut to 8 bits",
         due: Err(Refusal::SaltTooLong),
-        calls: |given| given.salt_len % 256 < 8,
+        calls: |asked| asked.given.salt_len % 256 < 8,
         answer: Refusal::SaltTooShort,
+    },
+    WrongRule {
+        name: "the fewest rounds are refused",
+        due: Ok(()),
+        calls: |asked| asked.settings.rho == 1,
+        answer: Refusal::Rounds,
+    },
+    WrongRule {
+        name: "the most rounds are refused",
+        due: Ok(()),
+        calls: |asked| asked.settings.rho == 12,
+        answer: Refusal::Rounds,
+    },
+    WrongRule {
+        name: "the shortest rotation is refused",
+        due: Ok(()),
+        calls: |asked| asked.settings.omega == 1,
+        answer: Refusal::Rotation,
+    },
+    WrongRule {
+        name: "the longest rotation is refused",
+        due: Ok(()),
+        calls: |asked| asked.settings.omega == 11,
+        answer: Refusal::Rotation,
+    },
+    WrongRule {
+        name: "wrong rounds are answered as a wrong rotation",
+        due: Err(Refusal::Rounds),
+        calls: |_| true,
+        answer: Refusal::Rotation,
+    },
+    WrongRule {
+        name: "a wrong rotation is answered as wrong rounds",
+        due: Err(Refusal::Rotation),
+        calls: |_| true,
+        answer: Refusal::Rounds,
+    },
+    WrongRule {
+        name: "the rounds come before C",
+        due: Err(Refusal::Columns),
+        calls: Asked::has_wrong_rounds,
+        answer: Refusal::Rounds,
+    },
+    WrongRule {
+        name: "the rotation comes before C",
+        due: Err(Refusal::Columns),
+        calls: Asked::has_wrong_rotation,
+        answer: Refusal::Rotation,
+    },
+    WrongRule {
+        name: "the rounds come before all else",
+        due: Err(Refusal::KeyLength),
+        calls: Asked::has_wrong_rounds,
+        answer: Refusal::Rounds,
+    },
+    WrongRule {
+        name: "the rotation comes before the rounds",
+        due: Err(Refusal::Rounds),
+        calls: Asked::has_wrong_rotation,
+        answer: Refusal::Rotation,
+    },
+    WrongRule {
+        name: "the rounds come after the matrix",
+        due: Err(Refusal::Rounds),
+        calls: Asked::has_short_matrix,
+        answer: Refusal::MatrixWords,
+    },
+    WrongRule {
+        name: "the rotation comes after the matrix",
+        due: Err(Refusal::Rotation),
+        calls: Asked::has_short_matrix,
+        answer: Refusal::MatrixWords,
     },
 ];
 
@@ -344,13 +464,8 @@ struct WrongRefusals {
 
 impl WrongRefusals {
     /// Comes before any buffer is touched, so that only the number of the refusal can tell.
-    fn refuse(
-        &self,
-        op: &str,
-        given: &Parameters,
-        due: Result<(), Refusal>,
-    ) -> Result<(), Refusal> {
-        if op == self.op && due == self.rule.due && (self.rule.calls)(given) {
+    fn refuse(&self, op: &str, asked: &Asked, due: Result<(), Refusal>) -> Result<(), Refusal> {
+        if op == self.op && due == self.rule.due && (self.rule.calls)(asked) {
             return Err(self.rule.answer);
         }
         due
@@ -365,9 +480,9 @@ impl Subject for WrongRefusals {
         matrix: &mut [u64],
         record: &mut [u64],
     ) -> Option<Result<Recorded, Refusal>> {
-        let given = inputs.parameters(key.len());
-        let due = check_record(&given, matrix, record);
-        match self.refuse("derive_recorded", &given, due) {
+        let asked = Asked::new(inputs, key.len(), matrix);
+        let due = check_record(&asked.given, asked.settings, matrix, record);
+        match self.refuse("derive_recorded", &asked, due) {
             Ok(()) => Reference.derive_recorded(inputs, key, matrix, record),
             Err(refusal) => Some(Err(refusal)),
         }
@@ -379,8 +494,9 @@ impl Subject for WrongRefusals {
         key: &mut [u8],
         matrix: &mut [u64],
     ) -> Result<Counts, Refusal> {
-        let given = inputs.parameters(key.len());
-        self.refuse("derive", &given, check_matrix(&given, matrix))?;
+        let asked = Asked::new(inputs, key.len(), matrix);
+        let due = check_matrix(&asked.given, asked.settings, matrix);
+        self.refuse("derive", &asked, due)?;
         Reference.derive(inputs, key, matrix)
     }
 
@@ -390,14 +506,23 @@ impl Subject for WrongRefusals {
         stored: &[u8],
         matrix: &mut [u64],
     ) -> Result<Checked, Refusal> {
-        let given = inputs.parameters(stored.len());
-        self.refuse("check", &given, check_matrix(&given, matrix))?;
+        let asked = Asked::new(inputs, stored.len(), matrix);
+        let due = check_matrix(&asked.given, asked.settings, matrix);
+        self.refuse("check", &asked, due)?;
         Reference.check(inputs, stored, matrix)
     }
 
-    fn cost(&self, given: &Parameters) -> Result<Counts, Refusal> {
-        self.refuse("cost", given, check_parameters(given))?;
-        Reference.cost(given)
+    fn cost(&self, given: &Parameters, rho: u64) -> Result<Counts, Refusal> {
+        let asked = Asked {
+            given: *given,
+            settings: Settings {
+                rho,
+                ..Settings::USUAL
+            },
+            matrix_words: u64::MAX,
+        };
+        self.refuse("cost", &asked, check_cost(given, rho))?;
+        Reference.cost(given, rho)
     }
 
     fn walk(&self, r: u64, row0: u64) -> Result<u64, Refusal> {
@@ -410,15 +535,142 @@ impl Subject for WrongRefusals {
 fn wrong_rules_of_refusal_are_noticed_in_every_operation() {
     let cases = small_cases();
     for rule in WRONG_RULES {
-        for op in ["derive_recorded", "derive", "check", "cost"] {
+        for op in OPS.into_iter().filter(|op| rule.concerns(op)) {
             for asked in [op, "derive_recorded"] {
                 let noticed = |case: &Case| {
                     write::op(&case.question) == asked
                         && run::check_case(&WrongRefusals { rule, op }, case).is_err()
                 };
-                // From the end, where the cases of the salts stand; they are found sooner.
+                // From the end, where the cases of single requests stand; they are found sooner.
                 let found = cases.iter().rev().any(noticed);
                 assert!(found, "{}: {op}, {asked}", rule.name);
+            }
+        }
+    }
+}
+
+/// A wrong use of the settings: what a program goes by instead of those that it is given.
+type WrongUse = (&'static str, fn(&mut Settings));
+
+const WRONG_ROUNDS: [WrongUse; 7] = [
+    ("always one round", |settings| settings.rho = 1),
+    ("a round more", |settings| {
+        settings.rho = settings.rho.wrapping_add(1)
+    }),
+    ("no round counts as one", |settings| {
+        settings.rho = settings.rho.max(1)
+    }),
+    ("12 rounds for more", |settings| {
+        settings.rho = settings.rho.min(12)
+    }),
+    ("rounds cut to 8 bits", |settings| settings.rho %= 1 << 8),
+    ("rounds cut to 32 bits", |settings| settings.rho %= 1 << 32),
+    ("the rotation's number as rounds", |settings| {
+        settings.rho = settings.omega
+    }),
+];
+
+const WRONG_ROTATIONS: [WrongUse; 9] = [
+    ("always two words", |settings| settings.omega = 2),
+    ("a word more", |settings| {
+        settings.omega = settings.omega.wrapping_add(1)
+    }),
+    ("to the left", |settings| {
+        settings.omega = 12u64.wrapping_sub(settings.omega)
+    }),
+    ("one word for none", |settings| {
+        settings.omega = settings.omega.max(1)
+    }),
+    ("11 words for more", |settings| {
+        settings.omega = settings.omega.min(11)
+    }),
+    ("modulo 12", |settings| settings.omega %= 12),
+    ("cut to 8 bits", |settings| settings.omega %= 1 << 8),
+    ("cut to 32 bits", |settings| settings.omega %= 1 << 32),
+    ("the rounds' number as words", |settings| {
+        settings.omega = settings.rho
+    }),
+];
+
+/// The reference program with a wrong use of the settings in one of its operations.
+struct WrongSettings {
+    change: fn(&mut Settings),
+    op: &'static str,
+}
+
+impl WrongSettings {
+    fn changed<'a>(&self, op: &str, inputs: &Inputs<'a>) -> Inputs<'a> {
+        let mut changed = *inputs;
+        if op == self.op {
+            (self.change)(&mut changed.settings);
+        }
+        changed
+    }
+}
+
+impl Subject for WrongSettings {
+    fn derive_recorded(
+        &self,
+        inputs: &Inputs,
+        key: &mut [u8],
+        matrix: &mut [u64],
+        record: &mut [u64],
+    ) -> Option<Result<Recorded, Refusal>> {
+        let inputs = self.changed("derive_recorded", inputs);
+        Reference.derive_recorded(&inputs, key, matrix, record)
+    }
+
+    fn derive(
+        &self,
+        inputs: &Inputs,
+        key: &mut [u8],
+        matrix: &mut [u64],
+    ) -> Result<Counts, Refusal> {
+        Reference.derive(&self.changed("derive", inputs), key, matrix)
+    }
+
+    fn check(
+        &self,
+        inputs: &Inputs,
+        stored: &[u8],
+        matrix: &mut [u64],
+    ) -> Result<Checked, Refusal> {
+        Reference.check(&self.changed("check", inputs), stored, matrix)
+    }
+
+    fn cost(&self, given: &Parameters, rho: u64) -> Result<Counts, Refusal> {
+        let mut settings = Settings {
+            rho,
+            ..Settings::USUAL
+        };
+        if self.op == "cost" {
+            (self.change)(&mut settings);
+        }
+        Reference.cost(given, settings.rho)
+    }
+
+    fn walk(&self, r: u64, row0: u64) -> Result<u64, Refusal> {
+        Reference.walk(r, row0)
+    }
+}
+
+/// By the operation's own cases, and by those of the recorded derivation, which ask the other operations too.
+#[test]
+fn wrong_uses_of_the_settings_are_noticed_in_every_operation() {
+    let cases = small_cases();
+    // The cost question has no rotation.
+    let uses = [(&WRONG_ROUNDS[..], &OPS[..]), (&WRONG_ROTATIONS, &OPS[..3])];
+    for (wrong_uses, ops) in uses {
+        for (name, change) in wrong_uses.iter().copied() {
+            for op in ops.iter().copied() {
+                for asked in [op, "derive_recorded"] {
+                    let noticed = |case: &Case| {
+                        write::op(&case.question) == asked
+                            && run::check_case(&WrongSettings { change, op }, case).is_err()
+                    };
+                    let found = cases.iter().rev().any(noticed);
+                    assert!(found, "{name}: {op}, {asked}");
+                }
             }
         }
     }
@@ -523,8 +775,8 @@ impl Subject for SpoiltMatrix<'_> {
         self.spoilt("check", inputs, stored.len(), matrix, answer)
     }
 
-    fn cost(&self, given: &Parameters) -> Result<Counts, Refusal> {
-        Reference.cost(given)
+    fn cost(&self, given: &Parameters, rho: u64) -> Result<Counts, Refusal> {
+        Reference.cost(given, rho)
     }
 
     fn walk(&self, r: u64, row0: u64) -> Result<u64, Refusal> {

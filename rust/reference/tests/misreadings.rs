@@ -1,4 +1,4 @@
-//! Misreadings of document 01, each made on purpose: the vectors file has to tell them apart.
+//! Misreadings of documents 01 and 02, each made on purpose: the vectors file has to tell them apart.
 //!
 //! The second writing of Lyra2 has a switch for each misreading. With none switched on it has to
 //! agree with the file.
@@ -7,6 +7,7 @@ mod common;
 mod second_writing;
 
 use lyra2_reference::vectors::{checksum, Answer, Given, Question};
+use lyra2_reference::Settings;
 use second_writing::{derive, Inputs, Misreading, Misreading::*};
 
 /// Inputs of the second writing.
@@ -18,6 +19,8 @@ fn inputs(given: &Given, key_len: u64) -> Inputs {
         t: given.t as usize,
         r: given.r as usize,
         c: given.c as usize,
+        rho: given.settings().rho as usize,
+        omega: given.settings().omega as usize,
     }
 }
 
@@ -64,6 +67,10 @@ fn right_key(inputs: &Inputs) -> Vec<u8> {
         t: inputs.t as u64,
         r: inputs.r as u64,
         c: inputs.c as u64,
+        settings: Settings {
+            rho: inputs.rho as u64,
+            omega: inputs.omega as u64,
+        },
     };
     lyra2_reference::derive(&given, &mut key, &mut matrix).unwrap();
     key
@@ -80,6 +87,8 @@ fn named(password_len: usize, r: usize, c: usize) -> Inputs {
         t: 1,
         r,
         c,
+        rho: 1,
+        omega: 2,
     }
 }
 
@@ -92,16 +101,17 @@ fn no_misreading_agrees_with_the_whole_file() {
         let Answer::Recorded {
             key,
             state,
+            counts,
             matrix_sum,
             record_sum,
             in_full,
-            ..
         } = answer
         else {
             continue;
         };
         assert_eq!(end.key, key, "case {number}");
         assert_eq!(end.state, state, "case {number}");
+        assert_eq!(end.counts, counts, "case {number}");
         assert_eq!(checksum::of_words(&end.matrix), matrix_sum, "case {number}");
         assert_eq!(checksum::of_words(&end.record), record_sum, "case {number}");
         if let Some((matrix, record)) = in_full {
@@ -214,4 +224,90 @@ fn visits_and_last_cell_without_visits() {
         assert_eq!(key(&inputs, misreading), right_key(&inputs));
         assert!(told_apart(misreading) >= 200, "{misreading:?}");
     }
+}
+
+/// A derivation with visits in which Setup revisits rows and a column can be picked wrongly.
+fn with_settings(rho: usize, omega: usize) -> Inputs {
+    Inputs {
+        rho,
+        omega,
+        ..named(8, 5, 3)
+    }
+}
+
+/// Of all settings, the misreading has to give the right key with just these.
+fn assert_right_for(misreading: Misreading, right: fn(usize, usize) -> bool) {
+    for rho in 1..=12 {
+        for omega in 1..=11 {
+            let inputs = with_settings(rho, omega);
+            let is_right = key(&inputs, misreading) == right_key(&inputs);
+            let asked = format!("{misreading:?}: rho {rho}, omega {omega}");
+            assert_eq!(is_right, right(rho, omega), "{asked}");
+        }
+    }
+}
+
+/// By six words both directions come to the same, so that no vector can tell them apart.
+#[test]
+fn rotation_to_the_left() {
+    assert_right_for(RotatedLeft, |_, omega| omega == 6);
+    assert!(told_apart(RotatedLeft) >= 1000);
+}
+
+#[test]
+fn rotation_of_two_words_in_one_phase() {
+    for misreading in [SetupRotatesByTwo, VisitsRotateByTwo] {
+        assert_right_for(misreading, |_, omega| omega == 2);
+        assert!(told_apart(misreading) >= 100, "{misreading:?}");
+    }
+}
+
+#[test]
+fn picks_by_the_usual_words() {
+    assert_right_for(PicksByTwo, |_, omega| omega == 2);
+    assert!(told_apart(PicksByTwo) >= 100);
+}
+
+#[test]
+fn first_column_picked_by_the_word_of_the_second_row() {
+    assert_right_for(Col0ByOmega, |_, _| false);
+    assert!(told_apart(Col0ByOmega) >= 1000);
+}
+
+/// Up to three words, three times ω stays within the output.
+#[test]
+fn picks_past_the_output() {
+    assert_right_for(PicksOfWholeState, |_, omega| omega <= 3);
+    assert!(told_apart(PicksOfWholeState) >= 100);
+}
+
+#[test]
+fn rounds_of_full_calls_and_of_one_phase() {
+    assert_right_for(FullCallsOfRho, |rho, _| rho == 12);
+    assert!(told_apart(FullCallsOfRho) >= 1000);
+    for misreading in [SetupOfOneRound, VisitsOfOneRound] {
+        assert_right_for(misreading, |rho, _| rho == 1);
+        assert!(told_apart(misreading) >= 100, "{misreading:?}");
+    }
+}
+
+/// The key is right then; the counts alone tell.
+#[test]
+fn reduced_calls_counted_as_one_round() {
+    assert_right_for(RoundsCountedOnce, |_, _| true);
+    let differs = |inputs: &Inputs, answer: &Answer| match answer {
+        Answer::Recorded { counts, .. } => derive(inputs, RoundsCountedOnce).counts != *counts,
+        _ => false,
+    };
+    let told_apart = derivations_of_the_file()
+        .iter()
+        .filter(|(_, inputs, answer)| differs(inputs, answer))
+        .count();
+    assert!(told_apart >= 100, "{told_apart}");
+}
+
+#[test]
+fn settings_in_the_input() {
+    assert_right_for(SettingsAbsorbed, |rho, omega| (rho, omega) == (1, 2));
+    assert!(told_apart(SettingsAbsorbed) >= 100);
 }

@@ -2,9 +2,9 @@
 
 use lyra2_reference::refusal::{
     Refusal, COST_CHECKS, LINE_READ_CHECKS, LINE_WRITE_CHECKS, PLAIN_CHECKS, RECORDED_CHECKS,
-    WALK_CHECKS,
+    ROTATIONS, ROUNDS, WALK_CHECKS,
 };
-use lyra2_reference::{check, cost, derive, derive_recorded, walk, Inputs, Parameters};
+use lyra2_reference::{check, cost, derive, derive_recorded, walk, Inputs, Parameters, Settings};
 use std::collections::BTreeSet;
 
 /// The sizes of a call; the contents of its buffers do not matter here.
@@ -16,6 +16,7 @@ struct Call {
     t: u64,
     r: u64,
     c: u64,
+    settings: Settings,
     matrix_words: usize,
     record_words: usize,
 }
@@ -28,6 +29,7 @@ const ACCEPTED: Call = Call {
     t: 1,
     r: 3,
     c: 1,
+    settings: Settings::USUAL,
     matrix_words: 36,
     record_words: 12,
 };
@@ -40,6 +42,7 @@ fn answers(call: &Call) -> [u8; 4] {
         t: call.t,
         r: call.r,
         c: call.c,
+        settings: call.settings,
     };
     let mut key = vec![3; call.key_len];
     let mut matrix = vec![4; call.matrix_words];
@@ -61,7 +64,7 @@ fn answers(call: &Call) -> [u8; 4] {
     let plain = untouched(number(answer), &mut key, &mut matrix, &mut record);
     let answer = check(&inputs, &key, &mut matrix);
     let checked = untouched(number(answer), &mut key, &mut matrix, &mut record);
-    let costed = number(cost(&inputs.parameters(call.key_len)));
+    let costed = number(cost(&inputs.parameters(call.key_len), call.settings.rho));
     [recorded, plain, checked, costed]
 }
 
@@ -129,6 +132,33 @@ fn numbers_outside_their_limits() {
     for c in [0, 257, 1 << 16 | 1, 1 << 32 | 1, u64::MAX] {
         assert_eq!(changed(|call| call.c = c), expected(&[Refusal::Columns]));
     }
+    for rho in [
+        0,
+        13,
+        14,
+        1 << 8 | 1,
+        1 << 16 | 1,
+        1 << 32,
+        1 << 32 | 1,
+        u64::MAX,
+    ] {
+        let found = changed(|call| call.settings.rho = rho);
+        assert_eq!(found, [13; 4], "rho {rho}");
+    }
+    for omega in [
+        0,
+        12,
+        13,
+        14,
+        1 << 8 | 2,
+        1 << 16 | 2,
+        1 << 32,
+        1 << 32 | 2,
+        u64::MAX,
+    ] {
+        let found = changed(|call| call.settings.omega = omega);
+        assert_eq!(found, [14, 14, 14, 0], "omega {omega}");
+    }
     let largest = changed(|call| (call.t, call.r, call.c) = (u64::MAX, u64::MAX, u64::MAX));
     assert_eq!(largest, expected(&[Refusal::TimeCost]));
 }
@@ -155,6 +185,12 @@ fn limits_themselves_are_accepted() {
     let wide =
         |call: &mut Call| (call.c, call.matrix_words, call.record_words) = (256, 9_216, 1_542);
     assert_eq!(changed(wide), [0; 4]);
+    for rho in ROUNDS {
+        for omega in ROTATIONS {
+            let found = changed(|call| call.settings = Settings { rho, omega });
+            assert_eq!(found, [0; 4], "rho {rho}, omega {omega}");
+        }
+    }
 }
 
 #[test]
@@ -197,6 +233,8 @@ fn make_hold(call: &mut Call, check: Refusal, high: bool) {
         Refusal::TimeCost => call.t = pick(256, u64::MAX),
         Refusal::Rows => call.r = pick(2, u64::MAX),
         Refusal::Columns => call.c = pick(0, u64::MAX),
+        Refusal::Rounds => call.settings.rho = pick(0, 13),
+        Refusal::Rotation => call.settings.omega = pick(0, 12),
         Refusal::MatrixWords => call.matrix_words = pick(0, 35) as usize,
         Refusal::RecordWords => call.record_words = pick(0, 11) as usize,
         Refusal::WalkRow | Refusal::LineForm | Refusal::OutputTooShort => {
@@ -228,7 +266,7 @@ fn the_first_of_any_set_of_conditions_is_returned() {
 type Change = fn(&mut Call);
 
 /// The calls that a check of the plain derivation refuses, one condition each.
-const OUTSIDE: [(Refusal, Change); 11] = [
+const OUTSIDE: [(Refusal, Change); 15] = [
     (Refusal::KeyLength, |call| call.key_len = 0),
     (Refusal::KeyLength, |call| call.key_len = 1025),
     (Refusal::PasswordLength, |call| call.password_len = 1025),
@@ -239,6 +277,10 @@ const OUTSIDE: [(Refusal, Change); 11] = [
     (Refusal::Rows, |call| call.r = 16_385),
     (Refusal::Columns, |call| call.c = 0),
     (Refusal::Columns, |call| call.c = 257),
+    (Refusal::Rounds, |call| call.settings.rho = 0),
+    (Refusal::Rounds, |call| call.settings.rho = 13),
+    (Refusal::Rotation, |call| call.settings.omega = 0),
+    (Refusal::Rotation, |call| call.settings.omega = 12),
     (Refusal::MatrixWords, |call| call.matrix_words = 35),
 ];
 
@@ -259,6 +301,7 @@ fn refused_calls_keep_a_matrix_that_would_have_fitted() {
             t: call.t,
             r: call.r,
             c: call.c,
+            settings: call.settings,
         };
         let before: Vec<u64> = (1..=call.matrix_words as u64).map(|word| !word).collect();
         let mut matrix = before.clone();
@@ -283,25 +326,25 @@ fn cost_of_lengths_that_no_buffer_has() {
         r: u64::MAX,
         c: u64::MAX,
     };
-    assert_eq!(number(cost(&largest)), 1);
+    assert_eq!(number(cost(&largest, u64::MAX)), 1);
     let key = Parameters {
         key_len: 1 << 32 | 32,
         ..largest
     };
-    assert_eq!(number(cost(&key)), 1);
+    assert_eq!(number(cost(&key, 1)), 1);
     let password = Parameters {
         key_len: 32,
         ..largest
     };
-    assert_eq!(number(cost(&password)), 2);
+    assert_eq!(number(cost(&password, 1)), 2);
     let salt = Parameters {
         password_len: 0,
         ..password
     };
-    assert_eq!(number(cost(&salt)), 10);
+    assert_eq!(number(cost(&salt, 1)), 10);
     // Cut to 32 bits, these salts would be too short or would pass.
     for salt_len in [1 << 32, 1 << 32 | 8, 1 << 32 | 64, 1 << 32 | 65] {
-        assert_eq!(number(cost(&Parameters { salt_len, ..salt })), 10);
+        assert_eq!(number(cost(&Parameters { salt_len, ..salt }, 1)), 10);
     }
     assert_eq!(largest.matrix_words(), u64::MAX);
     assert_eq!(largest.record_words(), u64::MAX);
@@ -330,9 +373,12 @@ fn numbers(refusals: &[Refusal]) -> Vec<u8> {
 
 #[test]
 fn orders_of_the_checks() {
-    assert_eq!(numbers(RECORDED_CHECKS), [1, 2, 3, 10, 4, 5, 6, 7, 8]);
-    assert_eq!(numbers(PLAIN_CHECKS), [1, 2, 3, 10, 4, 5, 6, 7]);
-    assert_eq!(numbers(COST_CHECKS), [1, 2, 3, 10, 4, 5, 6]);
+    assert_eq!(
+        numbers(RECORDED_CHECKS),
+        [1, 2, 3, 10, 4, 5, 6, 13, 14, 7, 8]
+    );
+    assert_eq!(numbers(PLAIN_CHECKS), [1, 2, 3, 10, 4, 5, 6, 13, 14, 7]);
+    assert_eq!(numbers(COST_CHECKS), [1, 2, 3, 10, 4, 5, 6, 13]);
     assert_eq!(numbers(WALK_CHECKS), [5, 9]);
 }
 
@@ -352,7 +398,7 @@ fn every_refusal_is_a_check_of_some_operation() {
 
 #[test]
 fn numbers_and_sentences() {
-    let all: Vec<u8> = (1..=12).collect();
+    let all: Vec<u8> = (1..=14).collect();
     assert_eq!(numbers(Refusal::ALL), all);
     let mut sentences = BTreeSet::new();
     for refusal in Refusal::ALL {
@@ -363,5 +409,5 @@ fn numbers_and_sentences() {
         assert!(sentences.insert(refusal.to_string()), "{refusal}");
     }
     assert_eq!(Refusal::from_number(0), None);
-    assert_eq!(Refusal::from_number(13), None);
+    assert_eq!(Refusal::from_number(15), None);
 }

@@ -1,7 +1,7 @@
 //! Bad vectors files and bad arguments: one line says what is wrong and where.
 
-use lyra2_reference::vectors::{read, Answer};
-use lyra2_reference::Refusal;
+use lyra2_reference::vectors::{read, Answer, Question};
+use lyra2_reference::{Refusal, Settings};
 use std::path::PathBuf;
 use std::process::{Command, Output};
 
@@ -21,6 +21,11 @@ const DERIVED: &str = "case=1 op=derive key_len=32 \
     salt=970d19add285c93d3e6acf7f93f5e9cc T=1 R=3 C=1 matrix_words=36 refusal=0 \
     key=01ff1f6b8a2f3c033f24023a1d9f6f9677f2a0b272bfdc823d4d637acfbaddab \
     full=3 reduced=6 rounds=42 matrix_sum=66e368127e9e89a5";
+
+/// The same input as in the line before, with settings.
+const NAMED: &str = "case=1 op=check stored=00 password_zeros=3 salt_zeros=8 \
+    T=1 R=3 C=1 rho=12 omega=11 matrix_words=36 refusal=0 answer=no full=2 reduced=6 rounds=96 \
+    matrix_sum=66e368127e9e89a5";
 
 const LINE_READ: &str = "case=1 op=line_read \
     line=246c7972613224743d312c723d332c633d31246332467364484e68624851245a67 salt_room=8 key_room=1 \
@@ -46,7 +51,7 @@ fn replaced(line: &str, part: &str, by: &str) -> String {
 #[test]
 fn the_lines_that_the_others_start_from_are_good() {
     for line in [
-        WALK, COST, REFUSED, CHECK, PROGRAM, DERIVED, LINE_READ, LINE_WRITE,
+        WALK, COST, REFUSED, CHECK, PROGRAM, DERIVED, NAMED, LINE_READ, LINE_WRITE,
     ] {
         assert!(read(format!("{line}\n").as_bytes()).is_ok(), "{line}");
     }
@@ -85,6 +90,42 @@ fn missing_fields() {
 }
 
 #[test]
+fn settings_are_named_together_or_not_at_all() {
+    assert_eq!(replaced(NAMED, " rho=12", ""), "field rho: missing");
+    assert_eq!(replaced(NAMED, " omega=11", ""), "field omega: missing");
+    let settings = |line: &str| {
+        let cases = read(format!("{line}\n").as_bytes()).unwrap();
+        match &cases[0].1.question {
+            Question::Check { given, .. } => (given.settings, given.settings()),
+            other => panic!("{other:?}"),
+        }
+    };
+    let named = Settings { rho: 12, omega: 11 };
+    assert_eq!(settings(NAMED), (Some(named), named));
+    let unnamed = NAMED.replace(" rho=12 omega=11", "");
+    assert_eq!(settings(&unnamed), (None, Settings { rho: 1, omega: 2 }));
+}
+
+#[test]
+fn settings_of_lines_that_have_none() {
+    let unknown = |name: &str| format!("field {name}: unknown in a line of this kind");
+    // The cost question has rounds and no rotation.
+    let rounds = COST.replace(" refusal=0", " rho=1 refusal=0");
+    assert!(read(format!("{rounds}\n").as_bytes()).is_ok());
+    let rotation = replaced(COST, " refusal=0", " rho=1 omega=2 refusal=0");
+    assert_eq!(rotation, unknown("omega"));
+    for line in [WALK, LINE_READ, LINE_WRITE] {
+        for field in ["rho=1", "omega=2"] {
+            let what = replaced(line, " refusal=0", &format!(" {field} refusal=0"));
+            let (name, _) = field.split_once('=').unwrap();
+            assert_eq!(what, unknown(name), "{line}");
+        }
+    }
+    let program = replaced(PROGRAM, " output_len=0", " rho=1 output_len=0");
+    assert_eq!(program, unknown("rho"));
+}
+
+#[test]
 fn fields_given_twice_or_unknown() {
     let twice = replaced(WALK, " row0=5", " row0=5 row0=5");
     assert_eq!(twice, "field row0: given twice");
@@ -106,6 +147,14 @@ fn bad_numbers() {
         let what = replaced(WALK, "row0=5", &format!("row0={value}"));
         let expected = format!("field row0: '{value}' is not a decimal number");
         assert_eq!(what, expected);
+    }
+    for name in ["rho=12", "omega=11"] {
+        let (field, _) = name.split_once('=').unwrap();
+        let what = replaced(NAMED, name, &format!("{field}=02"));
+        assert_eq!(what, format!("field {field}: '02' is not a decimal number"));
+        let what = replaced(NAMED, name, &format!("{field}=18446744073709551616"));
+        let start = format!("field {field}: 18446744073709551616 is out of range");
+        assert!(what.starts_with(&start), "{what}");
     }
     let above = replaced(WALK, "row0=5", "row0=18446744073709551616");
     let range = "18446744073709551616 is out of range, 0 to 18446744073709551615";
@@ -297,6 +346,24 @@ fn program_says_where_a_file_is_bad() {
         complaint_about("written.txt", &format!("{written}\n")),
         expected
     );
+    let outside = NAMED.replace("rho=12", "rho=13");
+    let expected = "1: case 1: field refusal: 0 is due, 13 was found";
+    assert_eq!(
+        complaint_about("outside.txt", &format!("{outside}\n")),
+        expected
+    );
+    let rounds = NAMED.replace("rho=12", "rho=11");
+    let expected = "1: case 1: field rounds: 96 is due, 90 was found";
+    assert_eq!(
+        complaint_about("rounds.txt", &format!("{rounds}\n")),
+        expected
+    );
+    let rotation = DERIVED.replace(" matrix_words", " rho=1 omega=3 matrix_words");
+    let complaint = complaint_about("rotation.txt", &format!("{rotation}\n"));
+    assert!(
+        complaint.starts_with("1: case 1: field key: "),
+        "{complaint}"
+    );
     // The sum that the line had before request #104, that of the end matrix.
     let kept = DERIVED.replace("66e368127e9e89a5", "0f3c14690553fc4a");
     let expected =
@@ -308,7 +375,8 @@ fn program_says_where_a_file_is_bad() {
 fn program_says_that_a_file_holds() {
     let file = place("good.txt");
     let mut lines = String::new();
-    for (number, line) in (1..).zip([WALK, DERIVED, LINE_READ, LINE_WRITE]) {
+    let usual = DERIVED.replace(" matrix_words", " rho=1 omega=2 matrix_words");
+    for (number, line) in (1..).zip([WALK, DERIVED, &usual, NAMED, LINE_READ, LINE_WRITE]) {
         lines += &line.replace("case=1", &format!("case={number}"));
         lines.push('\n');
     }
@@ -317,7 +385,7 @@ fn program_says_that_a_file_holds() {
     assert!(output.status.success());
     let text = String::from_utf8(output.stdout).unwrap();
     assert!(
-        text.ends_with(": all hold (cases: 4, refusals: 0)\n"),
+        text.ends_with(": all hold (cases: 6, refusals: 0)\n"),
         "{text}"
     );
 }

@@ -5,8 +5,9 @@ mod common;
 use lyra2_reference::vectors::{
     checksum, chosen_text, run, write, Answer, Case, Coverage, Given, Question, Reference,
 };
-use lyra2_reference::{Parameters, Refusal};
+use lyra2_reference::{Parameters, Refusal, Settings};
 use std::collections::{BTreeMap, BTreeSet};
+use std::ops::RangeInclusive;
 
 #[test]
 fn file_is_what_the_generator_writes() {
@@ -144,10 +145,13 @@ fn every_operation_has_each_of_its_refusals() {
         }
     }
     let expected: [(&str, BTreeSet<u8>); 7] = [
-        ("derive_recorded", [1, 2, 3, 4, 5, 6, 7, 8, 10].into()),
-        ("derive", [1, 2, 3, 4, 5, 6, 7, 10].into()),
-        ("check", [1, 2, 3, 4, 5, 6, 7, 10].into()),
-        ("cost", [1, 2, 3, 4, 5, 6, 10].into()),
+        (
+            "derive_recorded",
+            [1, 2, 3, 4, 5, 6, 7, 8, 10, 13, 14].into(),
+        ),
+        ("derive", [1, 2, 3, 4, 5, 6, 7, 10, 13, 14].into()),
+        ("check", [1, 2, 3, 4, 5, 6, 7, 10, 13, 14].into()),
+        ("cost", [1, 2, 3, 4, 5, 6, 10, 13].into()),
         ("walk", [5, 9].into()),
         ("line_read", [1, 3, 4, 5, 6, 10, 11, 12].into()),
         ("line_write", [1, 3, 4, 5, 6, 10, 12].into()),
@@ -155,28 +159,48 @@ fn every_operation_has_each_of_its_refusals() {
     assert_eq!(found, expected.into());
 }
 
-/// The numbers of a question and the words it lends as matrix and record, the most where it lends none. The
-/// walk has other numbers, and the login lines have tests of their own.
-fn numbers_and_words(question: &Question) -> Option<(Parameters, u64, u64)> {
+/// What the checks of a question look at; where it lends no matrix or record, the most words stand for it.
+struct Asked {
+    given: Parameters,
+    settings: Settings,
+    matrix_words: u64,
+    record_words: u64,
+}
+
+impl Asked {
+    fn new(given: &Given, key_len: u64) -> Asked {
+        Asked {
+            given: given.parameters(key_len),
+            settings: given.settings(),
+            matrix_words: given.matrix_words,
+            record_words: u64::MAX,
+        }
+    }
+}
+
+/// The walk has other numbers, and the login lines have tests of their own.
+fn asked(question: &Question) -> Option<Asked> {
     Some(match question {
         Question::DeriveRecorded {
             given,
             key_len,
             record_words,
             ..
-        } => (
-            given.parameters(*key_len),
-            given.matrix_words,
-            *record_words,
-        ),
-        Question::Derive { given, key_len } => {
-            (given.parameters(*key_len), given.matrix_words, u64::MAX)
-        }
-        Question::Check { given, stored } => {
-            let key_len = stored.count();
-            (given.parameters(key_len), given.matrix_words, u64::MAX)
-        }
-        Question::Cost(given) => (*given, u64::MAX, u64::MAX),
+        } => Asked {
+            record_words: *record_words,
+            ..Asked::new(given, *key_len)
+        },
+        Question::Derive { given, key_len } => Asked::new(given, *key_len),
+        Question::Check { given, stored } => Asked::new(given, stored.count()),
+        Question::Cost { given, rho } => Asked {
+            given: *given,
+            settings: Settings {
+                rho: rho.unwrap_or(1),
+                omega: 2,
+            },
+            matrix_words: u64::MAX,
+            record_words: u64::MAX,
+        },
         Question::Walk { .. }
         | Question::WalkProgram { .. }
         | Question::LineRead { .. }
@@ -186,9 +210,12 @@ fn numbers_and_words(question: &Question) -> Option<(Parameters, u64, u64)> {
 
 /// Whether the condition of a check holds for a question, also where another check comes first.
 fn holds(check: Refusal, question: &Question) -> bool {
-    let Some((given, matrix_words, record_words)) = numbers_and_words(question) else {
+    let Some(asked) = asked(question) else {
         return false;
     };
+    let Asked {
+        given, settings, ..
+    } = asked;
     match check {
         Refusal::KeyLength => given.key_len == 0 || given.key_len > 1024,
         Refusal::PasswordLength => given.password_len > 1024,
@@ -197,8 +224,10 @@ fn holds(check: Refusal, question: &Question) -> bool {
         Refusal::TimeCost => given.t > 255,
         Refusal::Rows => given.r < 3 || given.r > 16_384,
         Refusal::Columns => given.c == 0 || given.c > 256,
-        Refusal::MatrixWords => matrix_words < given.matrix_words(),
-        Refusal::RecordWords => record_words < given.record_words(),
+        Refusal::Rounds => settings.rho == 0 || settings.rho > 12,
+        Refusal::Rotation => settings.omega == 0 || settings.omega > 11,
+        Refusal::MatrixWords => asked.matrix_words < given.matrix_words(),
+        Refusal::RecordWords => asked.record_words < given.record_words(),
         Refusal::WalkRow | Refusal::LineForm | Refusal::OutputTooShort => false,
     }
 }
@@ -207,7 +236,7 @@ fn holds(check: Refusal, question: &Question) -> bool {
 fn cases_by_operation() -> BTreeMap<&'static str, Vec<Case>> {
     let mut cases_of: BTreeMap<_, Vec<Case>> = BTreeMap::new();
     for (_, case) in common::cases() {
-        if numbers_and_words(&case.question).is_some() {
+        if asked(&case.question).is_some() {
             let own = cases_of.entry(write::op(&case.question)).or_default();
             own.push(case);
         }
@@ -249,8 +278,8 @@ fn every_check_is_answered_where_a_later_one_holds_too() {
     }
 }
 
-/// The first case that request #104 added.
-const FIRST_WIPED: u64 = 3011;
+/// The cases that request #104 added.
+const WIPED: RangeInclusive<u64> = 3011..=3138;
 
 /// What an accepted plain derivation or check is given and its key length, with the sum of what it leaves.
 fn wiped(case: &Case) -> Option<(&Given, u64, u64)> {
@@ -291,7 +320,7 @@ fn recorded_derivations_of_request_104_are_asked_again_as_plain_ones_and_checks(
         else {
             continue;
         };
-        if lines[0].number < FIRST_WIPED {
+        if !WIPED.contains(&lines[0].number) {
             continue;
         }
         for case in &lines[1..] {
@@ -356,16 +385,14 @@ fn wiped_matrices_cover_the_limits() {
 fn every_other_refusal_is_asked_for_with_a_matrix_that_would_have_fitted() {
     let mut found: BTreeMap<&str, BTreeSet<u8>> = BTreeMap::new();
     for case in cases_by_operation().into_values().flatten() {
-        if let (Some((given, words, _)), Answer::Refused(refusal)) =
-            (numbers_and_words(&case.question), &case.answer)
-        {
-            if words > given.matrix_words() {
+        if let (Some(asked), Answer::Refused(refusal)) = (asked(&case.question), &case.answer) {
+            if asked.matrix_words > asked.given.matrix_words() {
                 let own = found.entry(write::op(&case.question)).or_default();
                 own.insert(refusal.number());
             }
         }
     }
     for op in ["derive", "check"] {
-        assert_eq!(found[op], [1, 2, 3, 4, 5, 6, 10].into(), "{op}");
+        assert_eq!(found[op], [1, 2, 3, 4, 5, 6, 10, 13, 14].into(), "{op}");
     }
 }

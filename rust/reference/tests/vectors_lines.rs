@@ -5,9 +5,10 @@ mod common;
 use lyra2_reference::vectors::{write, Answer, Case, Question};
 use lyra2_reference::{Parameters, Refusal};
 use std::collections::BTreeSet;
+use std::ops::RangeInclusive;
 
-/// The first case that request #105 added.
-const FIRST_LINE: u64 = 3139;
+/// The cases that request #105 added.
+const LINES: RangeInclusive<u64> = 3139..=4064;
 
 fn is_line(question: &Question) -> bool {
     matches!(
@@ -22,9 +23,9 @@ fn cases() -> Vec<Case> {
 }
 
 #[test]
-fn lines_stand_last() {
+fn lines_stand_together() {
     for (_, case) in common::cases() {
-        assert_eq!(is_line(&case.question), case.number >= FIRST_LINE);
+        assert_eq!(is_line(&case.question), LINES.contains(&case.number));
     }
 }
 

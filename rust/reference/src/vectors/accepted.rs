@@ -6,27 +6,30 @@
 use super::case::{Bytes, Given, Question};
 use super::random::Random;
 use crate::input::Parameters;
+use crate::settings::Settings;
 use crate::Inputs;
 
-/// The sizes of a derivation.
+/// The sizes of a derivation, and its settings where the line is to name them.
 #[derive(Clone, Copy)]
-struct Shape {
-    password_len: u64,
-    salt_len: u64,
-    key_len: u64,
-    t: u64,
-    r: u64,
-    c: u64,
+pub(super) struct Shape {
+    pub password_len: u64,
+    pub salt_len: u64,
+    pub key_len: u64,
+    pub t: u64,
+    pub r: u64,
+    pub c: u64,
+    pub settings: Option<Settings>,
 }
 
 /// The shape that the groups vary.
-const BASE: Shape = Shape {
+pub(super) const BASE: Shape = Shape {
     password_len: 13,
     salt_len: 16,
     key_len: 32,
     t: 1,
     r: 4,
     c: 2,
+    settings: None,
 };
 
 impl Shape {
@@ -42,28 +45,40 @@ impl Shape {
     }
 
     /// Random contents and a matrix that fits exactly.
-    fn given(&self, random: &mut Random) -> Given {
+    pub fn given(&self, random: &mut Random) -> Given {
         Given {
             password: Bytes::Listed(random.bytes(self.password_len)),
             salt: Bytes::Listed(random.bytes(self.salt_len)),
             t: self.t,
             r: self.r,
             c: self.c,
+            settings: self.settings,
             matrix_words: self.parameters().matrix_words(),
         }
     }
 
     /// A recorded derivation with random contents and buffers that fit exactly.
-    fn recorded(&self, random: &mut Random) -> Question {
+    pub fn recorded(&self, random: &mut Random) -> Question {
         self.recorded_of(self.given(random))
     }
 
-    fn recorded_of(&self, given: Given) -> Question {
+    pub fn recorded_of(&self, given: Given) -> Question {
+        self.listed_of(given, false)
+    }
+
+    fn listed_of(&self, given: Given, in_full: bool) -> Question {
         Question::DeriveRecorded {
             given,
             key_len: self.key_len,
             record_words: self.parameters().record_words(),
-            in_full: false,
+            in_full,
+        }
+    }
+
+    pub fn cost(&self) -> Question {
+        Question::Cost {
+            given: self.parameters(),
+            rho: self.settings.map(|settings| settings.rho),
         }
     }
 }
@@ -108,21 +123,13 @@ fn in_full() -> Vec<Question> {
         (1, 17, 1),
         (3, 3, 4),
     ];
-    listed_in_full(1, &sizes)
+    listed_in_full(1, &sizes.map(|(t, r, c)| Shape { t, r, c, ..BASE }))
 }
 
-fn listed_in_full(seed: u64, sizes: &[(u64, u64, u64)]) -> Vec<Question> {
+pub(super) fn listed_in_full(seed: u64, shapes: &[Shape]) -> Vec<Question> {
     let mut random = Random::new(seed);
-    let listed = |&(t, r, c): &(u64, u64, u64)| {
-        let shape = Shape { t, r, c, ..BASE };
-        Question::DeriveRecorded {
-            given: shape.given(&mut random),
-            key_len: shape.key_len,
-            record_words: shape.parameters().record_words(),
-            in_full: true,
-        }
-    };
-    sizes.iter().map(listed).collect()
+    let listed = |shape: &Shape| shape.listed_of(shape.given(&mut random), true);
+    shapes.iter().map(listed).collect()
 }
 
 /// Password lengths on both sides of every change in the number of input blocks, for several salts.
@@ -223,6 +230,7 @@ fn corners() -> Vec<Question> {
             t: pick(3, 1, 255),
             r: 3,
             c: pick(4, 1, 256),
+            ..BASE
         };
         questions.push(shape.recorded(&mut random));
     }
@@ -269,6 +277,10 @@ fn spare_words(seed: u64, sizes: &[(u64, u64, u64)]) -> Vec<Question> {
 
 /// Contents that a reader can type: text, zeros and ones.
 fn plain_contents() -> Vec<Question> {
+    plain_contents_of(&BASE)
+}
+
+pub(super) fn plain_contents_of(shape: &Shape) -> Vec<Question> {
     let contents: [(&[u8], &[u8]); 8] = [
         (b"password", b"saltsalt"),
         (b"", b"saltsalt"),
@@ -280,10 +292,10 @@ fn plain_contents() -> Vec<Question> {
         (&[0x00; 72], &[0x00; 32]),
     ];
     let recorded = |(password, salt): (&[u8], &[u8])| {
-        let mut given = BASE.given(&mut Random::new(12));
+        let mut given = shape.given(&mut Random::new(12));
         given.password = Bytes::Listed(password.to_vec());
         given.salt = Bytes::Listed(salt.to_vec());
-        BASE.recorded_of(given)
+        shape.recorded_of(given)
     };
     contents.map(recorded).to_vec()
 }
@@ -346,11 +358,16 @@ fn derived_key(given: &Given, key_len: u64) -> Vec<u8> {
         t: given.t,
         r: given.r,
         c: given.c,
+        settings: given.settings(),
     };
     let mut key = vec![0; key_len as usize];
     let mut matrix = vec![0; given.matrix_words as usize];
     let _ = crate::derive(&inputs, &mut key, &mut matrix);
     key
+}
+
+fn cost(given: Parameters) -> Question {
+    Question::Cost { given, rho: None }
 }
 
 /// Costs at every limit, around the block edges and around the pieces of the key.
@@ -386,7 +403,7 @@ fn costs() -> Vec<Question> {
         r: 16_384,
         c: 256,
     });
-    given.into_iter().map(Question::Cost).collect()
+    given.into_iter().map(cost).collect()
 }
 
 /// The walk over the first windows, and where the later ones begin and end.
@@ -428,13 +445,14 @@ pub fn without_visits() -> Vec<Question> {
         (9, 1),
         (17, 1),
     ];
-    let plain = [(3, 1), (4, 2), (33, 4)].map(|(r, c)| Shape {
+    let setup_alone = |(r, c)| Shape {
         r,
         c,
         ..SETUP_ALONE
-    });
+    };
+    let plain = [(3, 1), (4, 2), (33, 4)].map(setup_alone);
     [
-        listed_in_full(15, &in_full.map(|(r, c)| (0, r, c))),
+        listed_in_full(15, &in_full.map(setup_alone)),
         recorded_without_visits(),
         spare_words(17, &[(0, 3, 1), (0, 5, 3)]),
         plain_derivations(18, &plain),
@@ -498,7 +516,7 @@ fn costs_without_visits() -> Vec<Question> {
         given.push(Parameters { r, c, ..base });
         given.push(Parameters { r, c, ..longest });
     }
-    given.into_iter().map(Question::Cost).collect()
+    given.into_iter().map(cost).collect()
 }
 
 /// The shortest and the longest salt in every operation, with visits and without.
@@ -515,9 +533,7 @@ pub fn with_limit_salts() -> Vec<Question> {
         shapes.map(|shape| shape.recorded(&mut random)).to_vec(),
         plain_derivations(21, &shapes),
         checks(22, &shapes),
-        shapes
-            .map(|shape| Question::Cost(shape.parameters()))
-            .to_vec(),
+        shapes.map(|shape| shape.cost()).to_vec(),
     ]
     .concat()
 }
@@ -528,24 +544,32 @@ pub fn wiped() -> Vec<Question> {
     let mut random = Random::new(28);
     let mut questions = Vec::new();
     for (shape, spare_words) in wiped_shapes(&mut random) {
-        let mut given = shape.given(&mut random);
-        given.matrix_words += spare_words;
-        let key = derived_key(&given, shape.key_len);
-        let mut other = key.clone();
-        other[random.between(0, shape.key_len - 1) as usize] ^= 1 << random.between(0, 7);
-        questions.push(shape.recorded_of(given.clone()));
-        questions.push(Question::Derive {
-            given: given.clone(),
-            key_len: shape.key_len,
-        });
-        for stored in [key, other] {
-            questions.push(Question::Check {
-                given: given.clone(),
-                stored: Bytes::Listed(stored),
-            });
-        }
+        questions.extend(four_ways(&shape, spare_words, &mut random));
     }
     questions
+}
+
+/// One input, with words lent past the used matrix: as a recorded derivation, as a plain one, as a check of the key
+/// and as a check of another.
+pub(super) fn four_ways(shape: &Shape, spare_words: u64, random: &mut Random) -> [Question; 4] {
+    let mut given = shape.given(random);
+    given.matrix_words += spare_words;
+    let key = derived_key(&given, shape.key_len);
+    let mut other = key.clone();
+    other[random.between(0, shape.key_len - 1) as usize] ^= 1 << random.between(0, 7);
+    let check = |stored| Question::Check {
+        given: given.clone(),
+        stored: Bytes::Listed(stored),
+    };
+    [
+        shape.recorded_of(given.clone()),
+        Question::Derive {
+            given: given.clone(),
+            key_len: shape.key_len,
+        },
+        check(key),
+        check(other),
+    ]
 }
 
 /// Shapes with the words that are lent past the used matrix: the limits of the key, of R and of C, with visits and
@@ -583,6 +607,7 @@ fn wiped_shapes(random: &mut Random) -> Vec<(Shape, u64)> {
             t: random.between(0, 3),
             r: random.between(3, 20),
             c: random.between(1, 8),
+            ..BASE
         };
         shapes.push((shape, random.between(0, 40)));
     }

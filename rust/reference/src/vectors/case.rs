@@ -5,6 +5,7 @@ use crate::refusal::{
     Refusal, COST_CHECKS, LINE_READ_CHECKS, LINE_WRITE_CHECKS, PLAIN_CHECKS, RECORDED_CHECKS,
     WALK_CHECKS,
 };
+use crate::settings::Settings;
 use crate::sponge::{Counts, State};
 
 /// A run of bytes, given one by one or as a number of zeros.
@@ -47,6 +48,8 @@ pub struct Given {
     pub r: u64,
     /// The number of columns C.
     pub c: u64,
+    /// The settings, where the line names them.
+    pub settings: Option<Settings>,
     /// Words of the lent matrix.
     pub matrix_words: u64,
 }
@@ -62,6 +65,11 @@ impl Given {
             r: self.r,
             c: self.c,
         }
+    }
+
+    /// The settings; a line that names none goes with the usual choice.
+    pub fn settings(&self) -> Settings {
+        self.settings.unwrap_or(Settings::USUAL)
     }
 }
 
@@ -109,7 +117,12 @@ pub enum Question {
         stored: Bytes,
     },
     /// The cost question.
-    Cost(Parameters),
+    Cost {
+        /// The six numbers of the input.
+        given: Parameters,
+        /// Rounds of a reduced call, where the line names them.
+        rho: Option<u64>,
+    },
     /// The walk question.
     Walk {
         /// The number of rows R.
@@ -147,7 +160,7 @@ impl Question {
         match self {
             Question::DeriveRecorded { .. } => RECORDED_CHECKS,
             Question::Derive { .. } | Question::Check { .. } => PLAIN_CHECKS,
-            Question::Cost(_) => COST_CHECKS,
+            Question::Cost { .. } => COST_CHECKS,
             Question::Walk { .. } => WALK_CHECKS,
             Question::WalkProgram { .. } => &[],
             Question::LineRead { .. } => LINE_READ_CHECKS,

@@ -15,6 +15,7 @@ pub mod random_line;
 pub mod read;
 mod refused;
 pub mod run;
+mod settings;
 pub mod subject;
 pub mod write;
 
@@ -37,6 +38,8 @@ pub fn chosen_questions() -> Vec<Question> {
         refused::with_room_to_wipe(),
         lines::read(),
         lines::written(),
+        settings::accepted(),
+        refused::of_settings(),
     ]
     .concat()
 }

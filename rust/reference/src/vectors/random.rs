@@ -1,6 +1,8 @@
 //! Random questions from a seed, for runs longer than the vectors file.
 
 use super::case::{Bytes, Given, Question};
+use crate::refusal::{ROTATIONS, ROUNDS};
+use crate::settings::Settings;
 
 /// The generator SplitMix64: small, and easy to write again elsewhere.
 #[derive(Clone, Debug)]
@@ -61,6 +63,7 @@ pub fn question(random: &mut Random) -> Question {
         t,
         r,
         c,
+        settings: Some(settings(random)),
         matrix_words: 0,
     };
     let mut key_len = random.mostly(1, 200, 1024, 8);
@@ -75,6 +78,23 @@ pub fn question(random: &mut Random) -> Question {
         key_len,
         record_words,
         in_full: false,
+    }
+}
+
+/// The usual choice, or once in two times any.
+pub fn settings(random: &mut Random) -> Settings {
+    if random.once_in(2) {
+        any_settings(random)
+    } else {
+        Settings::USUAL
+    }
+}
+
+/// Any settings that are accepted.
+pub fn any_settings(random: &mut Random) -> Settings {
+    Settings {
+        rho: random.between(*ROUNDS.start(), *ROUNDS.end()),
+        omega: random.between(*ROTATIONS.start(), *ROTATIONS.end()),
     }
 }
 
@@ -97,6 +117,12 @@ fn spoil(random: &mut Random, given: &mut Given, key_len: &mut u64, record_words
     }
     if random.once_in(4) {
         given.c = random.one_of(&[0, 1, 257, 1 << 32 | 1, u64::MAX]);
+    }
+    if let Some(settings) = given.settings.as_mut().filter(|_| random.once_in(4)) {
+        settings.rho = random.one_of(&[0, 1, 12, 13, 1 << 32 | 1, u64::MAX]);
+    }
+    if let Some(settings) = given.settings.as_mut().filter(|_| random.once_in(4)) {
+        settings.omega = random.one_of(&[0, 1, 11, 12, 1 << 32 | 2, u64::MAX]);
     }
     if random.once_in(4) {
         given.matrix_words = given.matrix_words.saturating_sub(random.between(1, 40));

@@ -4,6 +4,7 @@ use super::case::{Answer, Bytes, Case, Given, LoginValues, Output, Question, LIS
 use super::fields::{unknown_value, Fields, Trouble};
 use crate::input::Parameters;
 use crate::refusal::Refusal;
+use crate::settings::Settings;
 use crate::sponge::Counts;
 use std::fmt;
 
@@ -109,14 +110,21 @@ fn read_question(fields: &mut Fields) -> Result<Question, Trouble> {
             given: read_given(fields)?,
             stored: fields.bytes("stored", "stored_zeros")?,
         },
-        "cost" => Question::Cost(Parameters {
-            key_len: fields.any_number("key_len")?,
-            password_len: fields.any_number("password_len")?,
-            salt_len: fields.any_number("salt_len")?,
-            t: fields.any_number("T")?,
-            r: fields.any_number("R")?,
-            c: fields.any_number("C")?,
-        }),
+        "cost" => Question::Cost {
+            given: Parameters {
+                key_len: fields.any_number("key_len")?,
+                password_len: fields.any_number("password_len")?,
+                salt_len: fields.any_number("salt_len")?,
+                t: fields.any_number("T")?,
+                r: fields.any_number("R")?,
+                c: fields.any_number("C")?,
+            },
+            rho: if fields.has("rho") {
+                Some(fields.any_number("rho")?)
+            } else {
+                None
+            },
+        },
         "walk" => Question::Walk {
             r: fields.any_number("R")?,
             row0: fields.any_number("row0")?,
@@ -150,8 +158,20 @@ fn read_given(fields: &mut Fields) -> Result<Given, Trouble> {
         t: fields.any_number("T")?,
         r: fields.any_number("R")?,
         c: fields.any_number("C")?,
+        settings: read_settings(fields)?,
         matrix_words: fields.number("matrix_words", 0..=MOST_WORDS)?,
     })
+}
+
+/// The settings, or None where the line names neither.
+fn read_settings(fields: &mut Fields) -> Result<Option<Settings>, Trouble> {
+    if !fields.has("rho") && !fields.has("omega") {
+        return Ok(None);
+    }
+    Ok(Some(Settings {
+        rho: fields.any_number("rho")?,
+        omega: fields.any_number("omega")?,
+    }))
 }
 
 fn read_answer(fields: &mut Fields, question: &Question) -> Result<Answer, Trouble> {
@@ -174,7 +194,7 @@ fn read_answer(fields: &mut Fields, question: &Question) -> Result<Answer, Troub
             counts: read_counts(fields)?,
             matrix_sum: fields.word("matrix_sum")?,
         },
-        Question::Cost(_) => Answer::Cost(read_counts(fields)?),
+        Question::Cost { .. } => Answer::Cost(read_counts(fields)?),
         Question::Walk { .. } | Question::WalkProgram { .. } => Answer::Walk {
             row1: fields.any_number("row1")?,
         },

@@ -6,8 +6,9 @@ use super::case::{Bytes, Given, Question};
 use super::random::Random;
 use crate::input::Parameters;
 use crate::refusal::Refusal;
+use crate::settings::Settings;
 
-/// The sizes of a call.
+/// The sizes of a call, and its settings where the line is to name them.
 #[derive(Clone, Copy)]
 struct Sizes {
     key_len: u64,
@@ -16,6 +17,7 @@ struct Sizes {
     t: u64,
     r: u64,
     c: u64,
+    settings: Option<Settings>,
     matrix_words: u64,
     record_words: u64,
 }
@@ -28,6 +30,7 @@ const FITTING: Sizes = Sizes {
     t: 1,
     r: 3,
     c: 1,
+    settings: None,
     matrix_words: 36,
     record_words: 12,
 };
@@ -40,8 +43,14 @@ impl Sizes {
             t: self.t,
             r: self.r,
             c: self.c,
+            settings: self.settings,
             matrix_words: self.matrix_words,
         }
+    }
+
+    /// The settings, which the line then names.
+    fn settings(&mut self) -> &mut Settings {
+        self.settings.get_or_insert(Settings::USUAL)
     }
 
     fn recorded(&self) -> Question {
@@ -67,6 +76,13 @@ impl Sizes {
         }
     }
 
+    fn cost(&self) -> Question {
+        Question::Cost {
+            given: self.parameters(),
+            rho: self.settings.map(|settings| settings.rho),
+        }
+    }
+
     fn parameters(&self) -> Parameters {
         self.given().parameters(self.key_len)
     }
@@ -83,12 +99,7 @@ impl Sizes {
 
     /// Every operation that takes these sizes.
     fn questions(&self) -> Vec<Question> {
-        vec![
-            self.recorded(),
-            self.plain(),
-            self.check(),
-            Question::Cost(self.parameters()),
-        ]
+        vec![self.recorded(), self.plain(), self.check(), self.cost()]
     }
 
     /// The operations that have this check among theirs.
@@ -220,12 +231,14 @@ enum Size {
     TimeCost,
     Rows,
     Columns,
+    Rounds,
+    Rotation,
     Matrix,
     Record,
 }
 
-/// The sizes in the order of their checks. The groups go by these and not by the numbers of the checks, so
-/// that a number that comes later changes none of their questions.
+/// The sizes without the settings, in the order of their checks. The groups go by these and not by the numbers of the
+/// checks, so that a number that comes later changes none of their questions.
 const SIZES: [Size; 8] = [
     Size::Key,
     Size::Password,
@@ -254,6 +267,8 @@ fn make_hold(sizes: &mut Sizes, size: Size, from_above: bool) -> Refusal {
         (Size::TimeCost, _) => (&mut sizes.t, pick(0, u64::MAX), Refusal::TimeCost),
         (Size::Rows, _) => (&mut sizes.r, pick(2, u64::MAX), Refusal::Rows),
         (Size::Columns, _) => (&mut sizes.c, pick(0, u64::MAX), Refusal::Columns),
+        (Size::Rounds, _) => (&mut sizes.settings().rho, pick(0, 13), Refusal::Rounds),
+        (Size::Rotation, _) => (&mut sizes.settings().omega, pick(0, 12), Refusal::Rotation),
         (Size::Matrix, _) => (&mut sizes.matrix_words, pick(0, 35), Refusal::MatrixWords),
         (Size::Record, _) => (&mut sizes.record_words, pick(0, 11), Refusal::RecordWords),
     };
@@ -306,21 +321,21 @@ fn with_each(base: Sizes, among: &[Size], sides: &[bool]) -> Vec<Question> {
 
 /// Lengths that no buffer has, which the cost question can still be asked about.
 fn cost_lengths() -> Vec<Question> {
-    let base = FITTING.parameters();
-    let mut questions = Vec::new();
+    let base = FITTING;
+    let mut calls = Vec::new();
     for key_len in [1 << 32 | 32, u64::MAX] {
-        questions.push(Parameters { key_len, ..base });
+        calls.push(Sizes { key_len, ..base });
     }
     for password_len in [1 << 32, u64::MAX] {
-        questions.push(Parameters {
+        calls.push(Sizes {
             password_len,
             ..base
         });
     }
     for salt_len in [1 << 32 | 8, u64::MAX] {
-        questions.push(Parameters { salt_len, ..base });
+        calls.push(Sizes { salt_len, ..base });
     }
-    questions.into_iter().map(Question::Cost).collect()
+    calls.iter().map(Sizes::cost).collect()
 }
 
 /// The walk question's two refusals, alone and together.
@@ -415,7 +430,7 @@ pub fn of_salts() -> Vec<Question> {
         questions.extend(Sizes { salt_len, ..base }.questions());
     }
     for salt_len in [1 << 32 | 8, 1 << 32 | 64, 1 << 32 | 65, u64::MAX] {
-        questions.push(Question::Cost(Sizes { salt_len, ..base }.parameters()));
+        questions.push(Sizes { salt_len, ..base }.cost());
     }
     let others = all_but(&[Size::Salt]);
     // Not 7 and 65, with which the sets of all conditions stand in an earlier group.
@@ -452,6 +467,75 @@ fn random_salts() -> Vec<Question> {
         questions.extend(sizes.questions());
     }
     questions
+}
+
+/// The settings together with what is checked next to them, in the order of the checks.
+const AROUND_SETTINGS: [Size; 5] = [
+    Size::Columns,
+    Size::Rounds,
+    Size::Rotation,
+    Size::Matrix,
+    Size::Record,
+];
+
+/// Settings outside their limits: alone, with every other condition, and with all from one on.
+pub fn of_settings() -> Vec<Question> {
+    let base = Sizes {
+        settings: Some(Settings::USUAL),
+        ..FITTING
+    };
+    let with = |rho, omega| Sizes {
+        settings: Some(Settings { rho, omega }),
+        ..base
+    };
+    let mut questions = Vec::new();
+    // Some would pass if cut to 8, 16 or 32 bits, or modulo 12.
+    for rho in [
+        0,
+        13,
+        14,
+        24,
+        1 << 8 | 1,
+        1 << 16 | 1,
+        1 << 32,
+        1 << 32 | 1,
+        u64::MAX,
+    ] {
+        questions.extend(with(rho, 2).with_check(Refusal::Rounds));
+    }
+    for omega in [
+        0,
+        12,
+        13,
+        14,
+        23,
+        1 << 8 | 2,
+        1 << 16 | 2,
+        1 << 32,
+        1 << 32 | 2,
+        u64::MAX,
+    ] {
+        questions.extend(with(1, omega).with_check(Refusal::Rotation));
+    }
+    for (rho, omega) in [(0, 0), (0, 12), (13, 0), (13, 12)] {
+        questions.extend(with(rho, omega).with_check(Refusal::Rotation));
+    }
+    for (rho, from_above) in [(0, false), (13, true)] {
+        questions.extend(with_each(with(rho, 2), &SIZES, &[from_above]));
+    }
+    for (omega, from_above) in [(0, true), (12, false)] {
+        let mut with_rotation = with_each(with(1, omega), &SIZES, &[from_above]);
+        with_rotation.retain(|question| question.checks().contains(&Refusal::Rotation));
+        questions.extend(with_rotation);
+    }
+    questions.extend(all_from_one_on(base, &AROUND_SETTINGS));
+    // A cell more than is used, which must not be wiped.
+    for (rho, omega) in [(0, 2), (13, 2), (1, 0), (1, 12)] {
+        let mut with_room = with(rho, omega);
+        with_room.matrix_words += 12;
+        questions.extend([with_room.plain(), with_room.check()]);
+    }
+    without_repeats(questions)
 }
 
 /// Plain derivations and checks that are refused although the matrix would do, which must not be wiped then; only

@@ -5,6 +5,7 @@ use super::fields::short;
 use super::subject::Subject;
 use super::{checksum, lent, write};
 use crate::refusal::Refusal;
+use crate::settings::Settings;
 use crate::{Counts, Inputs, LineParts};
 
 /// How much of a case a program could be held against.
@@ -36,8 +37,8 @@ fn ask_if_offered(subject: &impl Subject, question: &Question) -> Result<Option<
         } => return ask_recorded(subject, given, *key_len, *record_words, *in_full),
         Question::Derive { given, key_len } => ask_plain(subject, given, *key_len)?,
         Question::Check { given, stored } => ask_check(subject, given, stored)?,
-        Question::Cost(given) => subject
-            .cost(given)
+        Question::Cost { given, rho } => subject
+            .cost(given, rho.unwrap_or(Settings::USUAL.rho))
             .map_or_else(Answer::Refused, Answer::Cost),
         Question::Walk { r, row0 } => subject
             .walk(*r, *row0)
@@ -143,6 +144,7 @@ fn with_inputs<A>(given: &Given, call: impl FnOnce(&Inputs) -> A) -> A {
         t: given.t,
         r: given.r,
         c: given.c,
+        settings: given.settings(),
     })
 }
 
@@ -275,7 +277,7 @@ fn agree_on_key(
     counts: Counts,
 ) -> Result<(), String> {
     let key_len = key.len() as u64;
-    let cost = Question::Cost(given.parameters(key_len));
+    let cost = cost_question(given, key_len);
     expect(subject, &cost, &Answer::Cost(counts))?;
     let matrix_sum = checksum::of_zero_words(given.parameters(key_len).matrix_words());
     let derived = Answer::Derived {
@@ -312,7 +314,7 @@ fn agree_on_refusal(
     let mut others = vec![
         derive_question(given, key_len),
         check_question(given, Bytes::Zeros(key_len)),
-        Question::Cost(given.parameters(key_len)),
+        cost_question(given, key_len),
     ];
     others.retain(|question| question.checks().contains(&refusal));
     for question in &others {
@@ -355,6 +357,13 @@ fn derive_question(given: &Given, key_len: u64) -> Question {
 fn check_question(given: &Given, stored: Bytes) -> Question {
     let given = given.clone();
     Question::Check { given, stored }
+}
+
+fn cost_question(given: &Given, key_len: u64) -> Question {
+    Question::Cost {
+        given: given.parameters(key_len),
+        rho: given.settings.map(|settings| settings.rho),
+    }
 }
 
 fn expect(subject: &impl Subject, question: &Question, expected: &Answer) -> Result<(), String> {

@@ -30,7 +30,7 @@ pub trait Subject {
         -> Result<Checked, Refusal>;
 
     /// The cost question.
-    fn cost(&self, given: &Parameters) -> Result<Counts, Refusal>;
+    fn cost(&self, given: &Parameters, rho: u64) -> Result<Counts, Refusal>;
 
     /// The walk question.
     fn walk(&self, r: u64, row0: u64) -> Result<u64, Refusal>;
@@ -88,8 +88,8 @@ impl Subject for Reference {
         crate::check(inputs, stored, matrix)
     }
 
-    fn cost(&self, given: &Parameters) -> Result<Counts, Refusal> {
-        crate::cost(given)
+    fn cost(&self, given: &Parameters, rho: u64) -> Result<Counts, Refusal> {
+        crate::cost(given, rho)
     }
 
     fn walk(&self, r: u64, row0: u64) -> Result<u64, Refusal> {

@@ -1,6 +1,7 @@
 //! Writing a case as a line of text.
 
 use super::case::{Answer, Bytes, Case, Given, LoginValues, Question};
+use crate::settings::Settings;
 use crate::sponge::Counts;
 
 /// The first lines of the vectors file.
@@ -28,7 +29,7 @@ pub fn op(question: &Question) -> &'static str {
         Question::DeriveRecorded { .. } => "derive_recorded",
         Question::Derive { .. } => "derive",
         Question::Check { .. } => "check",
-        Question::Cost(_) => "cost",
+        Question::Cost { .. } => "cost",
         Question::Walk { .. } => "walk",
         Question::WalkProgram { .. } => "walk_program",
         Question::LineRead { .. } => "line_read",
@@ -56,14 +57,18 @@ fn question(question: &Question) -> Vec<Field> {
             given: inputs,
             stored,
         } => [vec![bytes("stored", "stored_zeros", stored)], given(inputs)].concat(),
-        Question::Cost(parameters) => vec![
-            ("key_len", parameters.key_len.to_string()),
-            ("password_len", parameters.password_len.to_string()),
-            ("salt_len", parameters.salt_len.to_string()),
-            ("T", parameters.t.to_string()),
-            ("R", parameters.r.to_string()),
-            ("C", parameters.c.to_string()),
-        ],
+        Question::Cost { given, rho } => {
+            let mut fields = vec![
+                ("key_len", given.key_len.to_string()),
+                ("password_len", given.password_len.to_string()),
+                ("salt_len", given.salt_len.to_string()),
+                ("T", given.t.to_string()),
+                ("R", given.r.to_string()),
+                ("C", given.c.to_string()),
+            ];
+            fields.extend(rho.map(|rho| ("rho", rho.to_string())));
+            fields
+        }
         Question::Walk { r, row0 } => vec![("R", r.to_string()), ("row0", row0.to_string())],
         Question::WalkProgram { input } => vec![("input", hex(input))],
         Question::LineRead {
@@ -83,14 +88,19 @@ fn question(question: &Question) -> Vec<Field> {
 }
 
 fn given(given: &Given) -> Vec<Field> {
-    vec![
+    let mut fields = vec![
         bytes("password", "password_zeros", &given.password),
         bytes("salt", "salt_zeros", &given.salt),
         ("T", given.t.to_string()),
         ("R", given.r.to_string()),
         ("C", given.c.to_string()),
-        ("matrix_words", given.matrix_words.to_string()),
-    ]
+    ];
+    if let Some(Settings { rho, omega }) = given.settings {
+        fields.push(("rho", rho.to_string()));
+        fields.push(("omega", omega.to_string()));
+    }
+    fields.push(("matrix_words", given.matrix_words.to_string()));
+    fields
 }
 
 fn login_values(values: &LoginValues) -> Vec<Field> {

@@ -2,7 +2,7 @@
 //!
 //! Only the round and the starting words are the library's; `b2sum` vouches for those.
 
-use lyra2_reference::sponge::{round, State, STARTING_WORDS};
+use lyra2_reference::sponge::{round, Counts, State, STARTING_WORDS};
 
 #[derive(Clone, Copy, Debug, PartialEq, Eq)]
 pub enum Misreading {
@@ -26,6 +26,28 @@ pub enum Misreading {
     LastCellOfRow0,
     /// With T = 0 the last cell is that of the row that Setup revisited last.
     LastCellRevisited,
+    /// rot turns to the left: word j of rot(x) is word j − ω.
+    RotatedLeft,
+    /// Setup's rot goes by two words, whatever ω.
+    SetupRotatesByTwo,
+    /// The visits' rot goes by two words, whatever ω.
+    VisitsRotateByTwo,
+    /// The picks go by words 0, 2, 4 and 6, whatever ω.
+    PicksByTwo,
+    /// col0 goes by word ω, as row1 does.
+    Col0ByOmega,
+    /// The picks go by words 0, ω, 2ω and 3ω modulo 16, so that they leave the output.
+    PicksOfWholeState,
+    /// A full call has ρ rounds too.
+    FullCallsOfRho,
+    /// Setup's calls have one round, whatever ρ.
+    SetupOfOneRound,
+    /// The visits' calls have one round, whatever ρ.
+    VisitsOfOneRound,
+    /// A reduced call counts as one round, whatever ρ.
+    RoundsCountedOnce,
+    /// ρ and ω follow C in the input, unless they are the usual choice.
+    SettingsAbsorbed,
 }
 
 use Misreading::*;
@@ -36,8 +58,11 @@ type Cell = [u64; 12];
 struct Derivation {
     misreading: Misreading,
     state: State,
+    counts: Counts,
     rows: usize,
     columns: usize,
+    rho: usize,
+    omega: usize,
     cells: Vec<Cell>,
     prev0: usize,
     prev1: usize,
@@ -45,13 +70,58 @@ struct Derivation {
 }
 
 impl Derivation {
-    fn call(&mut self, rounds: usize) {
+    fn full_call(&mut self) {
+        let rounds = match self.misreading {
+            FullCallsOfRho => self.rho,
+            _ => 12,
+        };
         (0..rounds).for_each(|_| round(&mut self.state));
+        self.counts.full += 1;
+        self.counts.rounds += rounds as u64;
     }
 
-    fn absorb(&mut self, words: &[u64], rounds: usize) {
+    /// A reduced call of Setup, or of a visit.
+    fn reduced_call(&mut self, in_setup: bool) {
+        let rounds = match (self.misreading, in_setup) {
+            (SetupOfOneRound, true) | (VisitsOfOneRound, false) => 1,
+            _ => self.rho,
+        };
+        (0..rounds).for_each(|_| round(&mut self.state));
+        self.counts.reduced += 1;
+        self.counts.rounds += match self.misreading {
+            RoundsCountedOnce => 1,
+            _ => rounds as u64,
+        };
+    }
+
+    fn xor(&mut self, words: &[u64]) {
         self.state.iter_mut().zip(words).for_each(|(s, w)| *s ^= w);
-        self.call(rounds);
+    }
+
+    fn absorb(&mut self, words: &[u64]) {
+        self.xor(words);
+        self.full_call();
+    }
+
+    /// The words of the state by which row0, row1, col0 and col1 are picked.
+    fn picking_words(&self) -> [u64; 4] {
+        let places = match self.misreading {
+            PicksByTwo => [0, 2, 4, 6],
+            Col0ByOmega => [0, 1, 1, 3].map(|k| k * self.omega % 12),
+            PicksOfWholeState => [0, 1, 2, 3].map(|k| k * self.omega % 16),
+            _ => [0, 1, 2, 3].map(|k| k * self.omega % 12),
+        };
+        places.map(|place| self.state[place])
+    }
+
+    /// The rotation in Setup, or in a visit.
+    fn rot(&self, x: Cell, in_setup: bool) -> Cell {
+        let words = match (self.misreading, in_setup) {
+            (RotatedLeft, _) => 12 - self.omega,
+            (SetupRotatesByTwo, true) | (VisitsRotateByTwo, false) => 2,
+            _ => self.omega,
+        };
+        std::array::from_fn(|j| x[(j + words) % 12])
     }
 
     fn rand(&self) -> Cell {
@@ -85,7 +155,7 @@ impl Derivation {
         for col in 0..self.columns {
             let place = self.written(0, col);
             self.cells[place] = self.rand();
-            self.call(1);
+            self.reduced_call(true);
         }
         let (mut gap, mut stp, mut wnd, mut sqrt, mut row1) = (1isize, 1, 2, 2usize, 1);
         for row0 in 1..self.rows {
@@ -114,29 +184,27 @@ impl Derivation {
             _ => self.sum(&[revisited, previous, self.at(self.prev1, col)]),
         };
         let old = self.cells[previous];
-        self.absorb(&input, 1);
+        self.xor(&input);
+        self.reduced_call(true);
         let rand = self.rand();
         let place = self.written(row0, col);
         self.cells[place] = std::array::from_fn(|j| old[j] ^ rand[j]);
         if row0 >= 3 {
-            self.xor_into(revisited, rot(rand));
+            self.xor_into(revisited, self.rot(rand, true));
         }
     }
 
     fn visit(&mut self) {
-        let rand = self.rand();
-        let row0 = (rand[0] % self.rows as u64) as usize;
-        let row1 = (rand[2] % self.rows as u64) as usize;
-        let column = |word: u64| (word % self.columns as u64) as usize;
-        let kept = (column(rand[4]), column(rand[6]));
+        let first = self.picking_words();
+        let [row0, row1] = [first[0], first[1]].map(|word| (word % self.rows as u64) as usize);
         self.record.extend([row0 as u64, row1 as u64]);
         for col in 0..self.columns {
-            let rand = self.rand();
-            let column = |word: u64| (word % self.columns as u64) as usize;
-            let (col0, col1) = match self.misreading {
-                ColumnsKept => kept,
-                _ => (column(rand[4]), column(rand[6])),
+            let words = match self.misreading {
+                ColumnsKept => first,
+                _ => self.picking_words(),
             };
+            let column = |word: u64| (word % self.columns as u64) as usize;
+            let [col0, col1] = [words[2], words[3]].map(column);
             self.record.extend([col0 as u64, col1 as u64]);
             let previous = [self.at(self.prev0, col0), self.at(self.prev1, col1)];
             self.duplex_and_xor(self.at(row0, col), self.at(row1, col), previous);
@@ -150,7 +218,8 @@ impl Derivation {
         }
         let input = self.sum(&[first, second, previous[0], previous[1]]);
         let second_before = self.cells[second];
-        self.absorb(&input, 1);
+        self.xor(&input);
+        self.reduced_call(false);
         let rand = self.rand();
         if self.misreading != SumAfterXor {
             self.xor_into(first, rand);
@@ -158,15 +227,11 @@ impl Derivation {
         if self.misreading == FirstXorLost {
             self.cells[second] = second_before;
         }
-        self.xor_into(second, rot(rand));
+        self.xor_into(second, self.rot(rand, false));
     }
 }
 
-fn rot(x: Cell) -> Cell {
-    std::array::from_fn(|j| x[(j + 2) % 12])
-}
-
-/// What a derivation is made from: key length, password, salt, T, R and C.
+/// What a derivation is made from: key length, password, salt, T, R, C, ρ and ω.
 pub struct Inputs {
     pub key_len: usize,
     pub password: Vec<u8>,
@@ -174,12 +239,15 @@ pub struct Inputs {
     pub t: usize,
     pub r: usize,
     pub c: usize,
+    pub rho: usize,
+    pub omega: usize,
 }
 
 /// What a recorded derivation ends with. The plain one has the same key, and leaves nothing of the matrix.
 pub struct End {
     pub key: Vec<u8>,
     pub state: State,
+    pub counts: Counts,
     pub matrix: Vec<u64>,
     pub record: Vec<u64>,
 }
@@ -187,7 +255,12 @@ pub struct End {
 fn padded(inputs: &Inputs, misreading: Misreading) -> Vec<u8> {
     let lengths = [inputs.key_len, inputs.password.len(), inputs.salt.len()];
     let mut input = [inputs.password.as_slice(), &inputs.salt].concat();
-    for number in lengths.into_iter().chain([inputs.t, inputs.r, inputs.c]) {
+    let mut numbers = [lengths, [inputs.t, inputs.r, inputs.c]].concat();
+    let settings = [inputs.rho, inputs.omega];
+    if misreading == SettingsAbsorbed && settings != [1, 2] {
+        numbers.extend(settings);
+    }
+    for number in numbers {
         input.extend((number as u32).to_le_bytes());
     }
     let padding = 64 - input.len() % 64;
@@ -208,8 +281,11 @@ fn visited(inputs: &Inputs, misreading: Misreading) -> Derivation {
     let mut derivation = Derivation {
         misreading,
         state: [0; 16],
+        counts: Counts::default(),
         rows: inputs.r,
         columns: inputs.c,
+        rho: inputs.rho,
+        omega: inputs.omega,
         cells: vec![[0; 12]; inputs.r * inputs.c],
         prev0: 2,
         prev1: 0,
@@ -219,7 +295,7 @@ fn visited(inputs: &Inputs, misreading: Misreading) -> Derivation {
     for block in padded(inputs, misreading).chunks(64) {
         let word = |bytes: &[u8]| u64::from_le_bytes(bytes.try_into().unwrap());
         let words: Vec<_> = block.chunks(8).map(word).collect();
-        derivation.absorb(&words, 12);
+        derivation.absorb(&words);
     }
     derivation.setup();
     (0..inputs.r * inputs.t).for_each(|_| derivation.visit());
@@ -237,19 +313,22 @@ pub fn derive(inputs: &Inputs, misreading: Misreading) -> End {
     let mut derivation = visited(inputs, misreading);
     let state = derivation.state;
     let last = derivation.cells[derivation.at(derivation.prev0, 0)];
-    derivation.absorb(&last, 12);
+    derivation.absorb(&last);
     if misreading == ExtraCall {
-        derivation.call(12);
+        derivation.full_call();
     }
     let mut key = Vec::new();
     while key.len() < inputs.key_len {
+        if !key.is_empty() {
+            derivation.full_call();
+        }
         key.extend(derivation.rand().into_iter().flat_map(u64::to_le_bytes));
-        derivation.call(12);
     }
     key.truncate(inputs.key_len);
     End {
         key,
         state,
+        counts: derivation.counts,
         matrix: derivation.cells.concat(),
         record: derivation.record,
     }

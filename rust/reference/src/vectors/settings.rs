@@ -1,0 +1,214 @@
+//! The questions of the vectors file about rounds and rotation as settings, those that are accepted.
+
+use super::accepted::{four_ways, listed_in_full, plain_contents_of, Shape, BASE};
+use super::case::Question;
+use super::random::{any_settings, Random};
+use crate::refusal::{ROTATIONS, ROUNDS};
+use crate::settings::Settings;
+
+/// All groups, one after the other.
+pub fn accepted() -> Vec<Question> {
+    [
+        in_full(),
+        every_pair(),
+        plain_contents(),
+        rows(),
+        corners(),
+        without_visits(),
+        where_nothing_is_rotated(),
+        one_input_four_ways(),
+        costs(),
+        random(),
+    ]
+    .concat()
+}
+
+/// The shape that the groups vary, with these settings.
+fn with(rho: u64, omega: u64) -> Shape {
+    Shape {
+        settings: Some(Settings { rho, omega }),
+        ..BASE
+    }
+}
+
+/// Settings that differ from number to number.
+fn spread(number: u64) -> Shape {
+    with(1 + number % 12, 1 + number % 11)
+}
+
+/// The limits of both settings and some between them, with visits and without.
+fn in_full() -> Vec<Question> {
+    let pairs = [
+        (1, 1),
+        (1, 11),
+        (12, 1),
+        (12, 11),
+        (2, 6),
+        (5, 4),
+        (7, 8),
+        (1, 5),
+    ];
+    let with_visits = pairs.map(|(rho, omega)| with(rho, omega));
+    let without = [(12, 11), (3, 7)].map(|(rho, omega)| Shape {
+        t: 0,
+        r: 5,
+        ..with(rho, omega)
+    });
+    listed_in_full(31, &[&with_visits[..], &without].concat())
+}
+
+/// Every rotation with every number of rounds.
+fn every_pair() -> Vec<Question> {
+    let mut random = Random::new(32);
+    let mut questions = Vec::new();
+    for rho in ROUNDS {
+        for omega in ROTATIONS {
+            let shape = Shape {
+                r: 4 + (rho + omega) % 5,
+                c: 2 + omega % 3,
+                ..with(rho, omega)
+            };
+            questions.push(shape.recorded(&mut random));
+        }
+    }
+    questions
+}
+
+/// The earlier questions of these contents with the usual choice named, to which the answers are the same, and with
+/// other settings.
+fn plain_contents() -> Vec<Question> {
+    let usual = plain_contents_of(&with(1, 2));
+    [usual, plain_contents_of(&with(2, 3))].concat()
+}
+
+/// Rows over the first windows of the Setup walk, and where later ones begin and end.
+fn rows() -> Vec<Question> {
+    let mut random = Random::new(33);
+    let later = [6, 7, 8, 9, 10].map(|power| 1 << power);
+    let edges = later.into_iter().flat_map(|start| start - 1..=start + 1);
+    let shapes = (3..=34).chain(edges).map(|r| Shape {
+        r,
+        c: 1 + r % 3,
+        ..spread(r)
+    });
+    shapes.map(|shape| shape.recorded(&mut random)).collect()
+}
+
+/// The lowest and the highest of both settings, of T and of C, in every combination; the lengths are at their limits too.
+fn corners() -> Vec<Question> {
+    let mut random = Random::new(34);
+    let mut questions = Vec::new();
+    for set in 0..16 {
+        let pick = |bit: u32, low: u64, high: u64| if set >> bit & 1 == 0 { low } else { high };
+        let shape = Shape {
+            key_len: pick(0, 1, 1024),
+            password_len: pick(1, 1024, 0),
+            salt_len: pick(2, 64, 8),
+            t: pick(2, 0, 255),
+            r: 3,
+            c: pick(3, 1, 256),
+            ..with(pick(0, 1, 12), pick(1, 1, 11))
+        };
+        questions.push(shape.recorded(&mut random));
+    }
+    questions
+}
+
+/// T = 0: rows over the first windows, and some later ones.
+fn without_visits() -> Vec<Question> {
+    let mut random = Random::new(35);
+    let shapes = (3..=17).chain([33, 64, 65, 257]).map(|r| Shape {
+        t: 0,
+        r,
+        c: 1 + r % 3,
+        ..spread(7 * r)
+    });
+    shapes.map(|shape| shape.recorded(&mut random)).collect()
+}
+
+/// Three rows without visits, one input with each of some rotations: nothing is rotated, and all keys are the same.
+fn where_nothing_is_rotated() -> Vec<Question> {
+    let with_rotation = |omega| {
+        let shape = Shape {
+            t: 0,
+            r: 3,
+            ..with(3, omega)
+        };
+        shape.recorded(&mut Random::new(36))
+    };
+    [1, 2, 6, 11].map(with_rotation).to_vec()
+}
+
+/// T, ρ and ω: the usual choice, the limits of both and some between them, each in every operation that derives.
+const FOUR_WAYS: [(u64, u64, u64); 12] = [
+    (1, 1, 2),
+    (1, 1, 1),
+    (2, 1, 11),
+    (1, 12, 1),
+    (2, 12, 11),
+    (1, 2, 2),
+    (3, 1, 3),
+    (1, 6, 6),
+    (2, 7, 5),
+    (1, 11, 10),
+    (0, 4, 4),
+    (0, 12, 11),
+];
+
+fn one_input_four_ways() -> Vec<Question> {
+    let mut random = Random::new(37);
+    let mut questions = Vec::new();
+    for (place, (t, rho, omega)) in (0..).zip(FOUR_WAYS) {
+        let shape = Shape {
+            password_len: random.between(0, 150),
+            salt_len: random.between(8, 64),
+            key_len: random.between(1, 200),
+            t,
+            r: random.between(4, 20),
+            c: random.between(2, 8),
+            ..with(rho, omega)
+        };
+        questions.extend(four_ways(&shape, place % 3, &mut random));
+    }
+    questions
+}
+
+/// Costs with every number of rounds: of a small derivation, and of the largest.
+fn costs() -> Vec<Question> {
+    let small = ROUNDS.map(|rho| with(rho, 2));
+    let largest = ROUNDS.map(|rho| Shape {
+        key_len: 1024,
+        password_len: 1024,
+        salt_len: 64,
+        t: 255,
+        r: 16_384,
+        c: 256,
+        ..with(rho, 2)
+    });
+    let setup_alone = [1, 12].map(|rho| Shape {
+        t: 0,
+        ..with(rho, 2)
+    });
+    let shapes = small.chain(largest).chain(setup_alone);
+    shapes.map(|shape| shape.cost()).collect()
+}
+
+fn random() -> Vec<Question> {
+    let mut random = Random::new(38);
+    let mut questions = Vec::new();
+    for _ in 0..60 {
+        let shape = Shape {
+            password_len: random.between(0, 150),
+            salt_len: random.between(8, 64),
+            key_len: random.between(1, 200),
+            t: random.between(0, 3),
+            r: random.between(3, 40),
+            c: random.between(1, 8),
+            settings: Some(any_settings(&mut random)),
+        };
+        let mut given = shape.given(&mut random);
+        given.matrix_words += random.between(0, 3);
+        questions.push(shape.recorded_of(given));
+    }
+    questions
+}
