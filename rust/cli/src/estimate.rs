@@ -2,7 +2,7 @@
 
 use crate::failure::Failure;
 use crate::memory;
-use lyra2::{Counts, Parameters, ROWS};
+use lyra2::{Counts, Parameters, Settings, ROWS};
 use std::time::Instant;
 
 /// Cells of the small matrix at most, 6 MiB.
@@ -12,9 +12,11 @@ const TIME: usize = 4;
 /// How often it is timed.
 const TURNS: usize = 3;
 
-/// The expected seconds of a derivation with parameters that no check refuses.
-pub fn seconds(parameters: Parameters, counts: Counts) -> Result<f64, Failure> {
-    let small = Parameters {
+/// The expected seconds of a derivation with settings that no check refuses. The small derivation has their rounds and
+/// rotation: how much of a reduced call's time its rounds take depends on the machine.
+pub fn seconds(settings: Settings, counts: Counts) -> Result<f64, Failure> {
+    let parameters = settings.parameters;
+    let parameters = Parameters {
         time: parameters.time.min(TIME),
         rows: parameters
             .rows
@@ -22,7 +24,11 @@ pub fn seconds(parameters: Parameters, counts: Counts) -> Result<f64, Failure> {
             .max(*ROWS.start()),
         columns: parameters.columns,
     };
-    let mut matrix = memory::matrix(small)?;
+    let mut matrix = memory::matrix(parameters)?;
+    let small = Settings {
+        parameters,
+        ..settings
+    };
     let mut times = [0.0; TURNS];
     for time in &mut times {
         let began = Instant::now();

@@ -8,6 +8,11 @@ not shown.";
 /// That a password is typed twice.
 pub const TYPED_TWICE: &str = "A typed password is asked for twice.";
 
+/// That a key goes with its rounds and rotation.
+pub const SETTINGS: &str =
+    "A key goes with the rounds and the rotation that it was made with, and does not show them: \
+`lyra2 check` has to be given those of `lyra2 derive`.";
+
 /// A line made and used.
 pub const LINE_EXAMPLE: &str = "Example, in which a password is typed twice and then once:\n    \
 lyra2 line --time 1 --rows 1024 --columns 64 --key-length 32 --output line\n    \

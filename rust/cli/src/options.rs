@@ -9,7 +9,7 @@ use crate::random;
 use crate::reading::{leave_out_newline, read_file};
 use crate::secret::Secret;
 use clap::{ArgGroup, Args};
-use lyra2::{Parameters, KEY_LENGTHS, SALT_MAX};
+use lyra2::{Parameters, Settings, KEY_LENGTHS, SALT_MAX, USUAL_ROTATION, USUAL_ROUNDS};
 use std::ffi::OsString;
 use std::path::PathBuf;
 
@@ -35,6 +35,34 @@ impl CostOptions {
             time: self.time,
             rows: self.rows,
             columns: self.columns,
+        }
+    }
+}
+
+#[derive(Args)]
+pub struct RoundsOption {
+    /// The rounds of a reduced call, rho, 1 to 12
+    #[arg(long, value_name = "N", value_parser = decimal, allow_negative_numbers = true, default_value_t = USUAL_ROUNDS)]
+    pub rounds: usize,
+}
+
+#[derive(Args)]
+pub struct SettingsOptions {
+    #[command(flatten)]
+    costs: CostOptions,
+    #[command(flatten)]
+    rounds: RoundsOption,
+    /// The rotation in words, omega, 1 to 11
+    #[arg(long, value_name = "N", value_parser = decimal, allow_negative_numbers = true, default_value_t = USUAL_ROTATION)]
+    rotation: usize,
+}
+
+impl SettingsOptions {
+    pub fn settings(&self) -> Settings {
+        Settings {
+            parameters: self.costs.parameters(),
+            rounds: self.rounds.rounds,
+            rotation: self.rotation,
         }
     }
 }

@@ -82,6 +82,26 @@ fn options() {
         "derive --salt --rows 3",
         "lyra2 derive: --salt has no value",
     );
+    says(
+        &format!("{DERIVE} --rounds 2 --rounds 2"),
+        "lyra2 derive: --rounds is given twice",
+    );
+    says(
+        &format!("{DERIVE} --rotation"),
+        "lyra2 derive: --rotation has no value",
+    );
+    // A line goes with the usual choice, and the rotation costs nothing.
+    for (line, option) in [
+        (LINE, "--rounds"),
+        (LINE, "--rotation"),
+        ("login --line-file x", "--rounds"),
+        ("login --line-file x", "--rotation"),
+        (COST, "--rotation"),
+    ] {
+        let found = lyra2(&words(&format!("{line} {option} 2")), b"pass").failure();
+        let due = format!("lyra2 {}: unknown option {option:?}", words(line)[0]);
+        assert!(found.starts_with(&due), "{found}");
+    }
 }
 
 #[test]
@@ -213,6 +233,12 @@ fn numbers() {
         &minus,
         "lyra2 derive: --rows: \"-3\" is not a number in decimal digits",
     );
+    for (option, text) in [("--rounds", "-1"), ("--rotation", "2.0")] {
+        says(
+            &format!("{DERIVE} {option} {text}"),
+            &format!("lyra2 derive: {option}: {text:?} is not a number in decimal digits"),
+        );
+    }
 }
 
 #[test]
@@ -339,13 +365,64 @@ fn a_refusal_comes_before_any_memory_is_set_aside() {
     );
 }
 
+/// The line with the numbers of the largest matrix.
+fn largest(line: &str) -> String {
+    line.replace("--rows 3", "--rows 16384")
+        .replace("--columns 1", "--columns 256")
+}
+
+/// Also where there is no memory for the matrix, and the rotation is no part of the cost question.
+#[test]
+fn rounds_and_rotation_outside_their_limits() {
+    let file = TemporaryFile::holding(b"an older file");
+    let trial = format!(
+        "{} --output {}",
+        DERIVE.replace("derive", "trial"),
+        file.name()
+    );
+    let check = format!("{CHECK} --key 00");
+    let cost = format!("{COST} --password-length 1");
+    let rounds = "refused 13: the rounds of a reduced call must be 1 to 12";
+    let rotation = "refused 14: the rotation must be 1 to 11 words";
+    for (options, words, commands) in [
+        ("--rounds 0", rounds, &[DERIVE, &check, &trial, &cost][..]),
+        ("--rounds 13", rounds, &[DERIVE, &check, &trial, &cost]),
+        (
+            "--rounds 13 --rotation 0",
+            rounds,
+            &[DERIVE, &check, &trial],
+        ),
+        ("--rotation 0", rotation, &[DERIVE, &check, &trial]),
+        ("--rotation 12", rotation, &[DERIVE, &check, &trial]),
+        (
+            "--rotation 18446744073709551615",
+            rotation,
+            &[DERIVE, &check, &trial],
+        ),
+    ] {
+        for command in commands {
+            let name = common::words(command)[0];
+            let due = format!("lyra2 {name}: {words}");
+            says(&format!("{command} {options}"), &due);
+            let arguments = format!("{} {options}", largest(command));
+            let mut program = limited(200_000, &arguments);
+            let ended = program.stdin(Stdio::null()).output().expect("a shell");
+            assert_eq!(String::from_utf8_lossy(&ended.stderr), due + "\n");
+            assert_eq!(ended.status.code(), Some(2));
+        }
+    }
+    assert_eq!(file.bytes(), b"an older file");
+    // What is refused before them is told before them.
+    let columns = DERIVE.replace("--columns 1", "--columns 0 --rounds 0 --rotation 0");
+    says(
+        &columns,
+        "lyra2 derive: refused 6: the number of columns C must be 1 to 256",
+    );
+}
+
 /// A limit on the process' memory, since the machine may have enough for any matrix.
 #[test]
 fn memory_that_is_not_there() {
-    let largest = |line: &str| {
-        line.replace("--rows 3", "--rows 16384")
-            .replace("--columns 1", "--columns 256")
-    };
     let line = TemporaryFile::holding(b"$lyra2$t=1,r=16384,c=256$c2FsdHNhbHQ$AAAA");
     let login = format!("login --line-file {}", line.name());
     for arguments in [largest(DERIVE), largest(LINE), login] {

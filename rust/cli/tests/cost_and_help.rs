@@ -18,8 +18,12 @@ const COMMANDS: [&str; 10] = [
 ];
 
 fn cost(time: usize, rows: usize, columns: usize) -> String {
+    cost_with(time, rows, columns, "")
+}
+
+fn cost_with(time: usize, rows: usize, columns: usize, options: &str) -> String {
     let lengths = "--key-length 32 --password-length 12 --salt-length 16";
-    let line = format!("cost --time {time} --rows {rows} --columns {columns} {lengths}");
+    let line = format!("cost --time {time} --rows {rows} --columns {columns} {lengths} {options}");
     lyra2(&words(&line), b"").result()
 }
 
@@ -50,6 +54,16 @@ fn the_lines_of_a_cost() {
 }
 
 #[test]
+fn the_cost_with_other_rounds() {
+    for (rounds, due) in [(1, 3024), (2, 6024), (12, 36_024)] {
+        let output = cost_with(2, 100, 10, &format!("--rounds {rounds}"));
+        let lines: Vec<&str> = output.lines().take(3).collect();
+        let due = format!("rounds: {due}");
+        assert_eq!(lines, ["full calls: 2", "reduced calls: 3000", &due]);
+    }
+}
+
+#[test]
 fn the_cost_of_setup_alone() {
     let output = cost(0, 100, 10);
     let due =
@@ -66,6 +80,21 @@ fn the_estimate_grows_with_the_calls() {
     let [small, large] = [cost(1, 64, 16), cost(255, 1024, 16)].map(|output| seconds(&output));
     assert!(small > 0.0 && small < 1.0, "{small}");
     assert!(large > 2.0 * small && large < 2048.0, "{small} and {large}");
+}
+
+/// Twelve rounds take longer than one, but not twelve times as long: the memory is the same. A derivation of less than a
+/// millisecond is mostly left alone on a busy machine, and of some turns the shortest counts.
+#[test]
+fn the_estimate_grows_with_the_rounds() {
+    let [one, twelve] = [1, 12].map(|rounds| {
+        let options = format!("--rounds {rounds}");
+        let turns = [(); 5].map(|()| seconds(&cost_with(4, 64, 16, &options)));
+        turns.into_iter().fold(f64::INFINITY, f64::min)
+    });
+    assert!(
+        twelve > 2.0 * one && twelve < 20.0 * one,
+        "{one} and {twelve}"
+    );
 }
 
 #[test]
@@ -89,8 +118,8 @@ fn every_command_has_its_help_three_ways() {
 /// Each option that a help names is one that the command knows, and the other way round.
 #[test]
 fn the_help_names_the_options_that_there_are() {
-    let options = "password-file salt salt-file time rows columns key-length key key-file output \
-                   password-length salt-length line-file";
+    let options = "password-file salt salt-file time rows columns rounds rotation key-length key \
+                   key-file output password-length salt-length line-file";
     for command in COMMANDS {
         let help = lyra2(&["help", command], b"").result();
         for option in words(options) {
@@ -126,6 +155,26 @@ fn the_manual_page_has_what_the_help_has() {
     assert!(options_of(&lyra2(&["help", "check"], b"").result()).contains(&"--key-file"));
 }
 
+/// Wherever there is a default, help and manual page say it.
+#[test]
+fn the_usual_rounds_and_rotation_are_said() {
+    let page = lyra2(&["manual"], b"").result().replace("\\-", "-");
+    let parts: Vec<&str> = page.split("\n.SS ").skip(1).collect();
+    let (rounds, rotation) = ("1 to 12 [default: 1]", "1 to 11 [default: 2]");
+    for (command, part) in COMMANDS.into_iter().zip(parts) {
+        let help = lyra2(&["help", command], b"").result();
+        let has_both = ["derive", "check", "trial"].contains(&command);
+        for text in [help.as_str(), part] {
+            assert_eq!(
+                text.contains(rounds),
+                has_both || command == "cost",
+                "{text}"
+            );
+            assert_eq!(text.contains(rotation), has_both, "{text}");
+        }
+    }
+}
+
 #[test]
 fn completions_name_every_command() {
     for shell in ["bash", "elvish", "fish", "powershell", "zsh"] {
@@ -133,7 +182,9 @@ fn completions_name_every_command() {
         for command in COMMANDS {
             assert!(script.contains(command), "{shell}: {command}");
         }
-        assert!(script.contains("key-length"), "{shell}");
+        for option in ["key-length", "rounds", "rotation"] {
+            assert!(script.contains(option), "{shell}: {option}");
+        }
     }
 }
 

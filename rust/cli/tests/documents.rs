@@ -2,12 +2,13 @@
 
 mod common;
 
+use common::end_state::{summed, EndState};
 use common::line::{encode, Line};
 use common::{hex, lyra2, words, TemporaryFile};
 use lyra2_reference::refusal::{
     COST_CHECKS, LINE_READ_CHECKS, LINE_WRITE_CHECKS, PLAIN_CHECKS, RECORDED_CHECKS, WALK_CHECKS,
 };
-use lyra2_reference::{derive, Inputs, Refusal};
+use lyra2_reference::{derive, Inputs, Refusal, Settings};
 use std::collections::BTreeMap;
 
 fn document(name: &str) -> String {
@@ -24,6 +25,7 @@ fn the_first_key_is_the_second_programs() {
         t: 1,
         r: 1024,
         c: 64,
+        settings: Settings::USUAL,
     };
     let mut key = [0; 32];
     let mut matrix = vec![0; 12 * 1024 * 64];
@@ -109,26 +111,48 @@ fn shown_bytes(document: &str) -> Vec<(usize, Vec<u8>)> {
 #[test]
 fn the_example_of_an_end_state_file() {
     let text = document("docs/END-STATES.md");
+    // Wherever the page's lines end.
+    let sentences = words(&text).join(" ");
     let example = text
         .lines()
         .find_map(|line| line.trim().strip_prefix("printf password | lyra2 "))
         .expect("the document has its example");
-    let file = TemporaryFile::new();
-    let line = example.replace("--output example", &format!("--output {}", file.name()));
-    let printed = lyra2(&words(&line), b"password").result();
-    assert!(text.contains(&format!("prints `{}`", printed.trim_end())));
-    let line = line.replace("--time 1", "--time 0");
-    let without_visits = TemporaryFile::new();
-    let line = line.replace(file.name(), without_visits.name());
-    let printed = lyra2(&words(&line), b"password").result();
-    let same_trial = "With `--time 0` the same trial prints";
-    assert!(text.contains(&format!("{same_trial} `{}`", printed.trim_end())));
-    let bytes = file.bytes();
+    // Runs the example with other options and returns what it prints and writes.
+    let run = |time: &str| {
+        let file = TemporaryFile::new();
+        let output = format!("--output {}", file.name());
+        let line = example.replace("--output example", &output);
+        let printed = lyra2(&words(&line.replace("--time 1", time)), b"password").result();
+        (printed.trim_end().to_string(), file.bytes())
+    };
+    let (printed, bytes) = run("--time 1");
+    let without_visits = run("--time 0").0;
+    let settings = "--rounds 2 --rotation 3";
+    let other = run(&format!("--time 1 {settings}")).0;
+    for due in [
+        format!("--output example prints `{printed}`."),
+        format!("With `--time 0` the same trial prints `{without_visits}`"),
+        format!("With `{settings}` it prints `{other}`"),
+    ] {
+        assert!(sentences.contains(&due), "{due}");
+    }
     let shown = shown_bytes(&text);
     assert!(shown.len() >= 10);
     for (offset, part) in shown {
         assert_eq!(bytes[offset..offset + part.len()], part, "{offset:x}");
     }
+    // As the page says how a file of version 1 is made, whose checksum a program of that version printed.
+    let mut old = [&bytes[..40], &bytes[64..bytes.len() - 8]].concat();
+    old[8] = 1;
+    let old = summed(old);
+    assert_eq!(old, EndState::read(&bytes).write_version_1());
+    let sum: Vec<u8> = old.iter().rev().take(8).copied().collect();
+    let length = old.len();
+    let due = format!(
+        "the first one had {length} bytes and the checksum `{}`",
+        hex(&sum)
+    );
+    assert!(sentences.contains(&due), "{due}");
 }
 
 /// The commands of a document that give the program this password.

@@ -2,30 +2,30 @@
 
 mod common;
 
-use common::end_state::EndState;
+use common::end_state::{summed, EndState};
 use common::{hex, limited, lyra2, words, Run, TemporaryFile};
 use lyra2_reference::vectors::random::Random;
-use lyra2_reference::{derive_recorded, Inputs};
+use lyra2_reference::{derive_recorded, Inputs, Settings};
 
-/// T, R, C and the key length of the trials here.
+/// T, R, C and the key length of most trials here.
 const T: u64 = 2;
 const R: u64 = 4;
 const C: u64 = 3;
 const KEY_LENGTH: u64 = 20;
 
 fn trial(password: &[u8]) -> TemporaryFile {
-    trial_of(T, R, C, password)
+    trial_of(T, R, C, "", password)
 }
 
 /// The file of the smallest matrix, for tests that go through its bytes.
 fn small_trial() -> TemporaryFile {
-    trial_of(1, 3, 1, b"pass")
+    trial_of(1, 3, 1, "", b"pass")
 }
 
-fn trial_of(t: u64, r: u64, c: u64, password: &[u8]) -> TemporaryFile {
+fn trial_of(t: u64, r: u64, c: u64, settings: &str, password: &[u8]) -> TemporaryFile {
     let file = TemporaryFile::new();
     let line = format!(
-        "trial --salt {} --time {t} --rows {r} --columns {c} --key-length {KEY_LENGTH} --output {}",
+        "trial --salt {} --time {t} --rows {r} --columns {c} {settings} --key-length {KEY_LENGTH} --output {}",
         hex(b"saltsalt"),
         file.name()
     );
@@ -42,16 +42,17 @@ fn trial_of(t: u64, r: u64, c: u64, password: &[u8]) -> TemporaryFile {
 
 /// What the second program leaves.
 fn due(password: &[u8]) -> EndState {
-    due_of(T, password)
+    due_of(T, R, C, Settings::USUAL, password)
 }
 
-fn due_of(t: u64, password: &[u8]) -> EndState {
+fn due_of(t: u64, r: u64, c: u64, settings: Settings, password: &[u8]) -> EndState {
     let inputs = Inputs {
         password,
         salt: b"saltsalt",
         t,
-        r: R,
-        c: C,
+        r,
+        c,
+        settings,
     };
     let sizes = inputs.parameters(KEY_LENGTH as usize);
     let mut matrix = vec![0; sizes.matrix_words() as usize];
@@ -62,8 +63,11 @@ fn due_of(t: u64, password: &[u8]) -> EndState {
     let counts = recorded.counts;
     EndState {
         t,
-        r: R,
-        c: C,
+        r,
+        c,
+        rho: settings.rho,
+        omega: settings.omega,
+        mixer: 0,
         key_length: KEY_LENGTH,
         counts: [counts.full, counts.reduced, counts.rounds],
         state: recorded.state.to_vec(),
@@ -98,6 +102,100 @@ fn a_trial_writes_what_the_second_program_leaves() {
     assert_eq!(compare(&file, &file).result(), "equal\n");
 }
 
+/// With other rounds or another rotation the input is absorbed as before, and the walk is another one: the header says
+/// why, and the parts are compared all the same.
+#[test]
+fn trials_with_other_settings() {
+    let usual = trial(b"pass");
+    for (rho, omega, words) in [
+        (2, 2, "rho: 1 and 2"),
+        (12, 2, "rho: 1 and 12"),
+        (1, 1, "omega: 2 and 1"),
+        (1, 11, "omega: 2 and 11"),
+        (3, 5, "rho: 1 and 3"),
+    ] {
+        let options = format!("--rounds {rho} --rotation {omega}");
+        let file = trial_of(T, R, C, &options, b"pass");
+        let due = due_of(T, R, C, Settings { rho, omega }, b"pass");
+        assert_eq!(file.bytes(), due.write(), "{options}");
+        let again = trial_of(T, R, C, &options, b"pass");
+        assert_eq!(compare(&file, &again).result(), "equal\n");
+
+        let run = compare(&usual, &file);
+        let lines = differing(&run);
+        assert_eq!(lines[0], format!("different, first in the header: {words}"));
+        assert_eq!(lines[1], format!("header: parts at {words}"));
+        assert!(lines[2].starts_with("state: parts at word "), "{run:?}");
+        assert!(lines[3].starts_with("matrix: parts at row "), "{run:?}");
+        assert!(lines[4].starts_with("record: parts at visit "), "{run:?}");
+    }
+    let default = trial_of(T, R, C, "--rounds 1 --rotation 2", b"pass");
+    assert_eq!(default.bytes(), usual.bytes());
+    // Nothing is rotated in the first three rows.
+    let [two, seven] = [2, 7].map(|omega| {
+        let options = format!("--rotation {omega}");
+        trial_of(0, 3, C, &options, b"pass")
+    });
+    assert_eq!(
+        differing(&compare(&two, &seven)),
+        one_place("header", "omega: 2 and 7")
+    );
+}
+
+/// documents.rs holds the bytes of version 1 to those that were written then.
+#[test]
+fn a_file_of_version_1_is_equal_to_one_of_version_2() {
+    let mut end = due_of(1, 3, 1, Settings::USUAL, b"pass");
+    let old = end.write_version_1();
+    assert_eq!(end.write().len(), old.len() + 24);
+    let old = TemporaryFile::holding(&old);
+    let new = small_trial();
+    assert_eq!(compare(&old, &new).result(), "equal\n");
+    assert_eq!(compare(&new, &old).result(), "equal\n");
+    assert_eq!(compare(&old, &old).result(), "equal\n");
+
+    // Whatever differs is told as between two files of one version.
+    for (options, words) in [
+        ("--rounds 2", "rho: 1 and 2"),
+        ("--rotation 3", "omega: 2 and 3"),
+    ] {
+        let run = compare(&old, &trial_of(1, 3, 1, options, b"pass"));
+        let lines = differing(&run);
+        assert_eq!(lines[0], format!("different, first in the header: {words}"));
+    }
+    end.counts[2] += 1;
+    let other = TemporaryFile::holding(&end.write());
+    let words = format!("rounds: {} and {}", end.counts[2] - 1, end.counts[2]);
+    assert_eq!(
+        differing(&compare(&old, &other)),
+        one_place("header", &words)
+    );
+    end.counts[2] -= 1;
+    end.record[0] += 1;
+    let other = TemporaryFile::holding(&end.write_version_1());
+    let words = format!("visit 0, row0: {} and {}", end.record[0], end.record[0] - 1);
+    assert_eq!(
+        differing(&compare(&other, &new)),
+        one_place("record", &words)
+    );
+}
+
+/// The version tells how long the header is, so the other one's number makes a file that is not in order, though its
+/// checksum fits.
+#[test]
+fn the_number_of_the_other_version() {
+    let good = small_trial();
+    let end = due_of(1, 3, 1, Settings::USUAL, b"pass");
+    for (file, version) in [(end.write(), 1), (end.write_version_1(), 2)] {
+        let mut body = file[..file.len() - 8].to_vec();
+        body[8] = version;
+        let line = fault(&summed(body), &good);
+        let is_known =
+            line.contains(" is due") || line.contains("er than the ") || line.contains("damaged");
+        assert!(is_known, "{line}");
+    }
+}
+
 #[test]
 fn two_passwords_part_in_every_part() {
     let run = compare(&trial(b"pass"), &trial(b"word"));
@@ -123,14 +221,15 @@ fn two_passwords_part_in_every_part() {
 /// With T = 0 the record is empty, and equal in any two files; state and matrix tell the passwords apart.
 #[test]
 fn trials_without_visits() {
-    let file = trial_of(0, R, C, b"pass");
-    assert_eq!(file.bytes(), due_of(0, b"pass").write());
-    let again = trial_of(0, R, C, b"pass");
+    let due_of = |password| due_of(0, R, C, Settings::USUAL, password);
+    let file = trial_of(0, R, C, "", b"pass");
+    assert_eq!(file.bytes(), due_of(b"pass").write());
+    let again = trial_of(0, R, C, "", b"pass");
     assert_eq!(compare(&file, &again).result(), "equal\n");
 
-    let run = compare(&file, &trial_of(0, R, C, b"word"));
+    let run = compare(&file, &trial_of(0, R, C, "", b"word"));
     let lines = differing(&run);
-    let [first, second] = [due_of(0, b"pass").state[0], due_of(0, b"word").state[0]];
+    let [first, second] = [due_of(b"pass").state[0], due_of(b"word").state[0]];
     let state = format!("word 0: {first:016x} and {second:016x}");
     assert_eq!(lines[0], format!("different, first in the state: {state}"));
     assert_eq!(lines[1], "header: equal");
@@ -267,6 +366,39 @@ fn header_fields() {
             one_place("header", &words)
         );
     }
+    let (rho, omega) = (12, 11);
+    for (other, words) in [
+        (EndState { rho, ..end.clone() }, "rho: 1 and 12"),
+        (
+            EndState {
+                omega,
+                ..end.clone()
+            },
+            "omega: 2 and 11",
+        ),
+        (
+            EndState {
+                rho,
+                omega,
+                key_length: 21,
+                ..end.clone()
+            },
+            "rho: 1 and 12",
+        ),
+        (
+            EndState {
+                omega,
+                key_length: 21,
+                ..end.clone()
+            },
+            "omega: 2 and 11",
+        ),
+    ] {
+        assert_eq!(
+            differing(&compared(&end, &other)),
+            one_place("header", words)
+        );
+    }
 }
 
 #[test]
@@ -285,6 +417,13 @@ fn other_t_r_or_c() {
         (of(T, R + 1, C), "R: 4 and 5"),
         (of(T, R, C - 1), "C: 3 and 2"),
         (of(T + 1, R + 1, C + 1), "T: 2 and 3"),
+        (
+            EndState {
+                rho: 9,
+                ..of(T, R, C + 1)
+            },
+            "C: 3 and 4",
+        ),
     ] {
         let run = compared(&end, &other);
         let lines = differing(&run);
@@ -318,21 +457,30 @@ fn fault(bytes: &[u8], good: &TemporaryFile) -> String {
         .to_string()
 }
 
-#[test]
-fn files_cut_short_at_every_length() {
-    let good = small_trial();
-    let bytes = good.bytes();
+/// Every beginning of a file, whose header has so many bytes.
+#[track_caller]
+fn faults_of_beginnings(bytes: &[u8], header: usize, good: &TemporaryFile) {
     let whole = format!(
         "shorter than the {} bytes that its header asks for",
         bytes.len()
     );
     for length in 0..bytes.len() {
         let due = match length {
-            0..72 => "shorter than the header of 72 bytes",
+            // The version is not known yet.
+            0..16 => "shorter than the header of an end-state file",
+            _ if length < header => &format!("shorter than the header of {header} bytes"),
             _ => &whole,
         };
-        assert_eq!(fault(&bytes[..length], &good), due, "{length}");
+        assert_eq!(fault(&bytes[..length], good), due, "{length}");
     }
+}
+
+#[test]
+fn files_cut_short_at_every_length() {
+    let good = small_trial();
+    faults_of_beginnings(&good.bytes(), 96, &good);
+    let end = due_of(1, 3, 1, Settings::USUAL, b"pass");
+    faults_of_beginnings(&end.write_version_1(), 72, &good);
 }
 
 #[test]
@@ -346,7 +494,7 @@ fn files_with_a_changed_byte() {
         let due = match place {
             0..8 => "not an end-state file",
             8..16 => "version ",
-            16..48 => "",
+            16..72 => "",
             _ => "damaged: its checksum is ",
         };
         assert!(line.starts_with(due), "{place}: {line}");
@@ -378,6 +526,9 @@ fn headers_at_random() {
             t: draw(),
             r: draw(),
             c: draw(),
+            rho: draw(),
+            omega: draw(),
+            mixer: draw(),
             key_length: draw(),
             ..end.clone()
         };
@@ -427,18 +578,46 @@ fn numbers_outside_their_limits() {
         ),
     ] {
         assert_eq!(fault(&other.write(), &good), words);
+        assert_eq!(fault(&other.write_version_1(), &good), words);
+    }
+    let with = |rho: u64, omega: u64, mixer: u64| EndState {
+        rho,
+        omega,
+        mixer,
+        ..end.clone()
+    };
+    for (other, words) in [
+        (with(0, 2, 0), "rho is 0 in its header; 1 to 12 is due"),
+        (with(13, 0, 1), "rho is 13 in its header; 1 to 12 is due"),
+        (
+            with(1 << 32 | 1, 2, 0),
+            "rho is 4294967297 in its header; 1 to 12 is due",
+        ),
+        (with(1, 0, 1), "omega is 0 in its header; 1 to 11 is due"),
+        (with(12, 12, 0), "omega is 12 in its header; 1 to 11 is due"),
+        (
+            with(1, 2, 1),
+            "the mixer is 1 in its header; 0, the plain one, is due",
+        ),
+        (
+            with(1, 2, u64::MAX),
+            "the mixer is 18446744073709551615 in its header; 0, the plain one, is due",
+        ),
+    ] {
+        assert_eq!(fault(&other.write(), &good), words);
     }
 }
 
 #[test]
 fn a_file_with_a_byte_too_many() {
     let good = trial(b"pass");
-    let longer = [good.bytes(), vec![0]].concat();
-    let words = format!(
-        "longer than the {} bytes that its header asks for",
-        good.bytes().len()
-    );
-    assert_eq!(fault(&longer, &good), words);
+    for bytes in [good.bytes(), due(b"pass").write_version_1()] {
+        let words = format!(
+            "longer than the {} bytes that its header asks for",
+            bytes.len()
+        );
+        assert_eq!(fault(&[bytes, vec![0]].concat(), &good), words);
+    }
 }
 
 /// The header of the largest file, and nothing after the state: compared in little memory.
@@ -454,7 +633,7 @@ fn a_large_header_asks_for_no_memory() {
     let name = file.name();
     let ended = limited(100_000, &format!("compare {name} {name}")).output();
     let ended = ended.expect("a shell");
-    let bytes = 8 * (9 + 16 + 12 * 16_384 * 256 + 16_384 * 255 * 514 + 1u64);
+    let bytes = 8 * (12 + 16 + 12 * 16_384 * 256 + 16_384 * 255 * 514 + 1u64);
     let words = format!("shorter than the {bytes} bytes that its header asks for");
     let line = format!("lyra2 compare: {name:?}: {words}\n");
     assert_eq!(String::from_utf8_lossy(&ended.stderr), line);
@@ -466,10 +645,14 @@ fn other_files() {
     let good = trial(b"pass");
     let other = "not an end-state file: it does not start with LYRA2END";
     assert_eq!(fault(&[0; 1000], &good), other);
-    assert_eq!(fault(b"", &good), "shorter than the header of 72 bytes");
+    let empty = "shorter than the header of an end-state file";
+    assert_eq!(fault(b"", &good), empty);
     let line = lyra2(&["compare", "/dev/zero", good.name()], b"").failure();
     assert_eq!(line, format!("lyra2 compare: \"/dev/zero\": {other}"));
-    let mut newer = good.bytes();
-    newer[8] = 2;
-    assert_eq!(fault(&newer, &good), "version 2; version 1 is read");
+    for version in [0, 3, 255] {
+        let mut unknown = good.bytes();
+        unknown[8] = version;
+        let words = format!("version {version}; versions 1 and 2 are read");
+        assert_eq!(fault(&unknown, &good), words);
+    }
 }

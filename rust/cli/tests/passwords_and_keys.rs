@@ -3,19 +3,24 @@
 mod common;
 
 use common::{hex, lyra2, words, Run, TemporaryFile};
-use lyra2_reference::{derive, Inputs};
+use lyra2_reference::{derive, Inputs, Settings};
 
 const COSTS: &str = "--time 1 --rows 4 --columns 2";
 const SALT: &[u8] = b"saltsalt";
 
 /// The key that the second program derives, as the program prints it.
 fn due(password: &[u8], salt: &[u8], key_length: usize) -> String {
+    due_with(Settings::USUAL, password, salt, key_length)
+}
+
+fn due_with(settings: Settings, password: &[u8], salt: &[u8], key_length: usize) -> String {
     let inputs = Inputs {
         password,
         salt,
         t: 1,
         r: 4,
         c: 2,
+        settings,
     };
     let mut key = vec![0; key_length];
     derive(&inputs, &mut key, &mut [0; 12 * 4 * 2]).expect("no check refuses");
@@ -130,6 +135,38 @@ fn key_lengths() {
         let failure = lyra2(&words(&line), b"pass").failure();
         let due = "lyra2 derive: refused 1: the key must be 1 to 1024 bytes long";
         assert_eq!(failure, due, "{length}");
+    }
+}
+
+/// Each key goes with its own rounds and rotation, and the usual ones are those that nobody gives.
+#[test]
+fn rounds_and_rotations() {
+    let choices = [(1, 2), (1, 1), (1, 11), (2, 2), (5, 7), (12, 2), (12, 11)];
+    let options = |(rho, omega)| format!("--rounds {rho} --rotation {omega}");
+    for (rho, omega) in choices {
+        let key = due_with(Settings { rho, omega }, b"pass", SALT, 32);
+        let found = derived(&options((rho, omega)), b"pass").result();
+        assert_eq!(found, key, "{rho} {omega}");
+        for other in choices {
+            let stored = format!("--key {key} {}", options(other));
+            let run = checked(&stored, b"pass");
+            let due = match other == (rho, omega) {
+                true => (Some(0), "yes\n"),
+                false => (Some(1), "no\n"),
+            };
+            assert_eq!(
+                (run.status, run.output.as_str()),
+                due,
+                "{rho} {omega} {other:?}"
+            );
+        }
+    }
+    for (option, settings) in [
+        ("--rounds 3", Settings { rho: 3, omega: 2 }),
+        ("--rotation=3", Settings { rho: 1, omega: 3 }),
+    ] {
+        let key = due_with(settings, b"pass", SALT, 32);
+        assert_eq!(derived(option, b"pass").result(), key);
     }
 }
 

@@ -8,7 +8,7 @@ mod common;
 use common::end_state::EndState;
 use common::{hex, lyra2, Run, TemporaryFile};
 use lyra2_reference::vectors::{checksum, read, Answer, Case, Given, Question};
-use lyra2_reference::{check, Counts, Inputs, Refusal};
+use lyra2_reference::{check, Counts, Inputs, Refusal, Settings};
 
 const FILE: &str = concat!(env!("CARGO_MANIFEST_DIR"), "/../../vectors/lyra2.txt");
 /// A matrix of more words belongs to the lines that lend 400 MB.
@@ -39,7 +39,7 @@ fn can_be_asked(case: &Case) -> bool {
 }
 
 /// Runs a command on the inputs of a case: the password by standard input or by a file, and the salt by the
-/// command line or by a file, in turn.
+/// command line or by a file, in turn. Rounds and rotation are given where the line has them.
 fn run_on(command: &str, given: &Given, number: u64, others: &[String]) -> Run {
     let (mut password, salt) = (given.password.to_vec(), given.salt.to_vec());
     let password_file = TemporaryFile::holding(&password);
@@ -52,6 +52,10 @@ fn run_on(command: &str, given: &Given, number: u64, others: &[String]) -> Run {
         ],
     ]
     .concat();
+    if let Some(Settings { rho, omega }) = given.settings {
+        arguments.push(format!("--rounds={rho}"));
+        arguments.push(format!("--rotation={omega}"));
+    }
     arguments.extend_from_slice(others);
     if number.is_multiple_of(2) {
         arguments.push(format!("--password-file={}", password_file.name()));
@@ -81,6 +85,24 @@ fn is_refused(run: &Run, answer: &Answer, number: u64) -> bool {
     true
 }
 
+/// Requires so many cases, and so many of them with settings of their own.
+#[track_caller]
+fn assert_many(cases: &[Case], least: usize, least_with_settings: usize) {
+    let has_settings = |case: &&Case| match &case.question {
+        Question::DeriveRecorded { given, .. }
+        | Question::Derive { given, .. }
+        | Question::Check { given, .. } => given.settings.is_some(),
+        Question::Cost { rho, .. } => rho.is_some(),
+        _ => false,
+    };
+    let with_settings = cases.iter().filter(has_settings).count();
+    let counts = (cases.len(), with_settings);
+    assert!(
+        counts.0 >= least && counts.1 >= least_with_settings,
+        "{counts:?}"
+    );
+}
+
 #[test]
 fn plain_derivations() {
     let is_plain = |question: &Question| matches!(question, Question::Derive { .. });
@@ -101,7 +123,7 @@ fn plain_derivations() {
             assert!(is_refused(&run, &case.answer, case.number));
         }
     }
-    assert!(cases.len() >= 70, "{}", cases.len());
+    assert_many(&cases, 300, 70);
 }
 
 #[test]
@@ -127,7 +149,7 @@ fn recorded_derivations() {
             assert_eq!(run.result(), hex(key) + "\n", "case {}", case.number);
         }
     }
-    assert!(cases.len() >= 1500, "{}", cases.len());
+    assert_many(&cases, 2200, 350);
 }
 
 fn assert_end_state(case: &Case, found: &EndState) {
@@ -142,6 +164,11 @@ fn assert_end_state(case: &Case, found: &EndState) {
     else {
         panic!("case {} has another operation's answer", case.number);
     };
+    let Question::DeriveRecorded { given, .. } = &case.question else {
+        panic!("case {} has another operation's question", case.number);
+    };
+    let Settings { rho, omega } = given.settings();
+    assert_eq!((found.rho, found.omega, found.mixer), (rho, omega, 0));
     assert_eq!(found.state, state, "case {}", case.number);
     assert_eq!(found.counts, listed(counts), "case {}", case.number);
     let sums = [&found.matrix, &found.record].map(|words| checksum::of_words(words));
@@ -178,28 +205,27 @@ fn checks() {
             assert!(is_refused(&run, &case.answer, case.number));
         }
     }
-    assert!(cases.len() >= 130, "{}", cases.len());
+    assert_many(&cases, 400, 80);
 }
 
 #[test]
 fn cost_questions() {
-    let cases = cases(|question| matches!(question, Question::Cost(_)));
+    let cases = cases(|question| matches!(question, Question::Cost { .. }));
     for case in &cases {
-        let Question::Cost(given) = &case.question else {
+        let Question::Cost { given, rho } = &case.question else {
             continue;
         };
-        let run = lyra2(
-            &[
-                "cost".to_string(),
-                format!("--key-length={}", given.key_len),
-                format!("--password-length={}", given.password_len),
-                format!("--salt-length={}", given.salt_len),
-                format!("--time={}", given.t),
-                format!("--rows={}", given.r),
-                format!("--columns={}", given.c),
-            ],
-            b"",
-        );
+        let mut arguments = vec![
+            "cost".to_string(),
+            format!("--key-length={}", given.key_len),
+            format!("--password-length={}", given.password_len),
+            format!("--salt-length={}", given.salt_len),
+            format!("--time={}", given.t),
+            format!("--rows={}", given.r),
+            format!("--columns={}", given.c),
+        ];
+        arguments.extend(rho.map(|rho| format!("--rounds={rho}")));
+        let run = lyra2(&arguments, b"");
         if let Answer::Cost(counts) = &case.answer {
             let [full, reduced, rounds] = listed(counts);
             let start = format!(
@@ -214,7 +240,7 @@ fn cost_questions() {
             assert!(is_refused(&run, &case.answer, case.number));
         }
     }
-    assert!(cases.len() >= 120, "{}", cases.len());
+    assert_many(&cases, 280, 40);
 }
 
 #[test]
@@ -262,6 +288,7 @@ fn lines_to_log_in_with() {
             t: values.t,
             r: values.r,
             c: values.c,
+            settings: Settings::USUAL,
         };
         let mut matrix = vec![0; (12 * values.r * values.c) as usize];
         let checked = check(&inputs, &values.key.to_vec(), &mut matrix);

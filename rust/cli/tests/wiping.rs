@@ -9,7 +9,7 @@ mod common;
 use common::line::{encode, Line};
 use common::terminal::Terminal;
 use common::{command, hex, words, TemporaryFile};
-use lyra2_reference::{derive_recorded, Inputs};
+use lyra2_reference::{derive_recorded, Inputs, Settings};
 use std::fs::File;
 use std::io::{PipeReader, PipeWriter, Read, Seek, SeekFrom, Write};
 use std::process::{Command, Stdio};
@@ -63,6 +63,7 @@ impl Due {
             t: 1,
             r: 16,
             c: 4,
+            settings: Settings::USUAL,
         };
         let (mut key, mut matrix) = ([0; 64], [0; MATRIX_WORDS]);
         let recorded = derive_recorded(&inputs, &mut key, &mut matrix, &mut [0; RECORD_WORDS]);
@@ -203,7 +204,7 @@ fn no_core_dump_is_written() {
 fn of_a_trial_nothing_is_left() {
     let file = TemporaryFile::new();
     let line = line("trial", &format!("--output {}", file.name()));
-    let bytes = 8 * (9 + 16 + MATRIX_WORDS + RECORD_WORDS + 1);
+    let bytes = 8 * (12 + 16 + MATRIX_WORDS + RECORD_WORDS + 1);
     let text = format!("{bytes} bytes, checksum ");
     assert_eq!(left_by(&line, PASSWORD, &text), NOTHING);
 }

@@ -4,9 +4,9 @@
 
 use crate::guarded::{byte, word, Guarded};
 use crate::lines;
-use lyra2_reference::vectors::random::Random;
+use lyra2_reference::vectors::random::{self, Random};
 use lyra2_reference::vectors::{Reference, Subject};
-use lyra2_reference::{Checked, Counts, Inputs, Parameters, Recorded, Refusal};
+use lyra2_reference::{Checked, Counts, Inputs, Parameters, Recorded, Refusal, Settings};
 use std::fmt::{Debug, LowerHex};
 
 /// What a comparison was about.
@@ -14,6 +14,8 @@ use std::fmt::{Debug, LowerHex};
 pub struct Compared {
     /// The six numbers of the input.
     pub sizes: Parameters,
+    /// Rounds and rotation.
+    pub settings: Settings,
     /// What both programs answered to the recorded derivation, which alone has all the checks of a derivation.
     pub answer: Result<Recorded, Refusal>,
     /// What both programs answered to the login lines that were read and written: no refusal, or one.
@@ -24,6 +26,7 @@ pub struct Compared {
 #[derive(Clone, Copy, Debug)]
 struct Sizes {
     given: Parameters,
+    settings: Settings,
     matrix_words: u64,
     record_words: u64,
 }
@@ -72,12 +75,14 @@ pub fn compare(subject: &impl Subject, seed: u64) -> Result<Compared, String> {
     let lines = (0..LINES).map(|_| lines::compare_question(subject, &mut random));
     Ok(Compared {
         sizes: sizes.given,
+        settings: sizes.settings,
         answer: end.recorded,
         lines: lines.collect::<Result<_, _>>()?,
     })
 }
 
-/// Lengths from everywhere between their limits; T, R and C mostly small, so that a run gets far.
+/// Lengths from everywhere between their limits; T, R and C mostly small, so that a run gets far. The settings are
+/// the usual ones half the time.
 fn draw_sizes(random: &mut Random) -> Sizes {
     let given = Parameters {
         key_len: random.between(1, 1024),
@@ -89,6 +94,7 @@ fn draw_sizes(random: &mut Random) -> Sizes {
     };
     let mut sizes = Sizes {
         given,
+        settings: random::settings(random),
         matrix_words: given.matrix_words() + random.between(0, 40),
         record_words: given.record_words() + random.between(0, 40),
     };
@@ -110,12 +116,12 @@ fn mostly_small(random: &mut Random, low: u64, [usual, seldom, hardly]: [u64; 3]
     random.between(low, high)
 }
 
-/// Puts one size outside its limits, or makes a buffer shorter, which may leave it long enough.
+/// Puts one size or setting outside its limits, or makes a buffer shorter, which may leave it long enough.
 fn spoil(random: &mut Random, sizes: &mut Sizes) {
     let low = random.once_in(2);
     let pick = |below: u64, above: u64| if low { below } else { above };
-    let given = &mut sizes.given;
-    match random.between(1, 8) {
+    let (given, settings) = (&mut sizes.given, &mut sizes.settings);
+    match random.between(1, 10) {
         1 => given.key_len = pick(0, random.between(1025, 2000)),
         2 => given.password_len = random.between(1025, 2000),
         3 => given.salt_len = pick(random.between(0, 7), random.between(65, 200)),
@@ -123,6 +129,8 @@ fn spoil(random: &mut Random, sizes: &mut Sizes) {
         5 => given.r = pick(random.between(0, 2), random.between(16_385, u64::MAX)),
         6 => given.c = pick(0, random.between(257, u64::MAX)),
         7 => shorten(random, &mut sizes.matrix_words),
+        8 => settings.rho = pick(0, random.between(13, u64::MAX)),
+        9 => settings.omega = pick(0, random.between(12, u64::MAX)),
         _ => shorten(random, &mut sizes.record_words),
     }
 }
@@ -138,6 +146,7 @@ fn inputs(lent: &Lent) -> Inputs<'_> {
         t: lent.sizes.given.t,
         r: lent.sizes.given.r,
         c: lent.sizes.given.c,
+        settings: lent.sizes.settings,
     }
 }
 
@@ -225,11 +234,13 @@ where
 }
 
 fn compare_cost(subject: &impl Subject, lent: &Lent, end: &End) -> Result<(), String> {
-    // The cost question lends no matrix, so it has no such refusal.
-    if end.plain == Err(Refusal::MatrixWords) {
-        return Ok(());
-    }
-    same("cost", &end.plain, &subject.cost(&lent.sizes.given))
+    let (given, rho) = (&lent.sizes.given, lent.sizes.settings.rho);
+    let due = match end.plain {
+        // The cost question has neither a matrix nor a rotation, and no such refusals.
+        Err(Refusal::MatrixWords | Refusal::Rotation) => Reference.cost(given, rho),
+        answer => answer,
+    };
+    same("cost", &due, &subject.cost(given, rho))
 }
 
 /// The key; the key with one bit flipped; the key with another last byte. Each with the check's answer.

@@ -34,11 +34,13 @@ pub fn input<'a>(inputs: &Inputs<'a>) -> lyra2_sys::Input<'a> {
         time: size(inputs.t),
         rows: size(inputs.r),
         columns: size(inputs.c),
+        rounds: size(inputs.settings.rho),
+        rotation: size(inputs.settings.omega),
     }
 }
 
-/// The second program's six numbers as the library takes them.
-pub fn sizes(given: &Parameters) -> lyra2_sys::Sizes {
+/// The second program's six numbers and ρ as the library takes them.
+pub fn sizes(given: &Parameters, rho: u64) -> lyra2_sys::Sizes {
     lyra2_sys::Sizes {
         key: size(given.key_len),
         password: size(given.password_len),
@@ -46,6 +48,7 @@ pub fn sizes(given: &Parameters) -> lyra2_sys::Sizes {
         time: size(given.t),
         rows: size(given.r),
         columns: size(given.c),
+        rounds: size(rho),
     }
 }
 
@@ -98,9 +101,9 @@ impl Subject for Proved {
         Ok(Checked { matches, counts })
     }
 
-    fn cost(&self, given: &Parameters) -> Result<Counts, Refusal> {
+    fn cost(&self, given: &Parameters, rho: u64) -> Result<Counts, Refusal> {
         let mut costs = [BEFORE; 3];
-        let number = lyra2_sys::cost(sizes(given), &mut costs);
+        let number = lyra2_sys::cost(sizes(given, rho), &mut costs);
         counts(number, costs)
     }
 

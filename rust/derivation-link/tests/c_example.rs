@@ -1,6 +1,6 @@
 //! What examples/derive_and_check.c is due to print, which tests/c_example.sh holds it to, is the second program's.
 
-use lyra2_reference::{check, derive, Inputs, Refusal};
+use lyra2_reference::{check, derive, Inputs, Refusal, Settings};
 
 const DUE: &str = concat!(
     env!("CARGO_MANIFEST_DIR"),
@@ -15,6 +15,7 @@ fn the_output_of_the_c_example_is_the_second_programs() -> Result<(), Refusal> {
         t: 1,
         r: 256,
         c: 64,
+        settings: Settings::USUAL,
     };
     let mut key = [0; 32];
     let mut matrix = vec![0; 12 * 256 * 64];

@@ -1,16 +1,16 @@
 //! The end states of recorded derivations: the state after the last visit, the used matrix and the used
 //! record. With T = 0 it is the state after Setup, and the record is empty.
 //!
-//! Two inputs whose padded inputs have equally many blocks, of which exactly one differs, must leave end
-//! states that differ in at least one part. One input must leave the same end state in all three parts,
+//! Two inputs of the same settings whose padded inputs have equally many blocks, of which exactly one differs, must
+//! leave end states that differ in at least one part. One input must leave the same end state in all three parts,
 //! whatever the lent buffers held and however long they are.
 
 use derivation_link::Proved;
 use lyra2_reference::input::{padded_input, BLOCK_BYTES};
 use lyra2_reference::sponge::State;
-use lyra2_reference::vectors::random::Random;
+use lyra2_reference::vectors::random::{self, Random};
 use lyra2_reference::vectors::Subject;
-use lyra2_reference::{Inputs, Parameters};
+use lyra2_reference::{Inputs, Parameters, Settings};
 use std::collections::BTreeMap;
 
 const TIME_COSTS: [u64; 4] = [0, 1, 2, 3];
@@ -28,10 +28,11 @@ struct Input {
     t: u64,
     r: u64,
     c: u64,
+    settings: Settings,
 }
 
 impl Input {
-    /// Random bytes; the lengths and the key length take one byte each in the input.
+    /// Random bytes and settings; the lengths and the key length take one byte each in the input.
     fn random(random: &mut Random, [t, r, c]: [u64; 3]) -> Input {
         let (password_len, salt_len) = (random.between(1, 200), random.between(8, 63));
         Input {
@@ -41,6 +42,7 @@ impl Input {
             t,
             r,
             c,
+            settings: random::settings(random),
         }
     }
 
@@ -62,6 +64,7 @@ impl Input {
             t: self.t,
             r: self.r,
             c: self.c,
+            settings: self.settings,
         }
     }
 
@@ -258,6 +261,7 @@ fn two_blocks() -> Input {
         t: 1,
         r: 4,
         c: 2,
+        settings: Settings::USUAL,
     }
 }
 

@@ -2,9 +2,10 @@
 
 use derivation_link::compare::compare;
 use derivation_link::Proved;
+use lyra2_reference::refusal::ROTATIONS;
 use lyra2_reference::vectors::Subject;
 use lyra2_reference::{
-    Checked, Counts, Inputs, LineParts, LineValues, Parameters, Recorded, Refusal,
+    Checked, Counts, Inputs, LineParts, LineValues, Parameters, Recorded, Refusal, Settings,
 };
 
 #[derive(Clone, Copy, Debug, PartialEq, Eq)]
@@ -46,6 +47,24 @@ enum Fault {
     ShortSaltRefusedWith10,
     Salt64Refused,
     LongSaltAfterTime,
+    UsualRounds,
+    UsualRotation,
+    RotationToTheLeft,
+    NoRoundAsOne,
+    Rounds13As12,
+    NoRotationAsOne,
+    Rotation12As11,
+    RotationModulo12,
+    Rounds12Refused,
+    Rotation11Refused,
+    RoundsRefusedWith14,
+    RotationRefusedWith13,
+    RotationBeforeRounds,
+    RoundsAfterMatrix,
+    RotationAfterMatrix,
+    ReducedCallCountedOnce,
+    CostOfOneRound,
+    CostAcceptsNoRound,
     LinesMissing,
     NewlineTaken,
     LeadingZeroTaken,
@@ -81,7 +100,46 @@ impl Faulty {
             Err(Refusal::SaltTooShort) if self.0 == ShortSaltRefusedWith10 => {
                 Err(Refusal::SaltTooLong)
             }
+            Err(Refusal::Rounds) if self.0 == RoundsRefusedWith14 => Err(Refusal::Rotation),
+            Err(Refusal::Rotation) if self.0 == RotationRefusedWith13 => Err(Refusal::Rounds),
             other => other,
+        }
+    }
+
+    /// The settings that the faulty program goes by.
+    fn settings(&self, Settings { rho, omega }: Settings) -> Settings {
+        let rho = match (self.0, rho) {
+            (UsualRounds, _) | (NoRoundAsOne, 0) => 1,
+            (Rounds13As12, 13..) => 12,
+            (Rounds12Refused, 12) => 13,
+            _ => rho,
+        };
+        let omega = match (self.0, omega) {
+            (UsualRotation, _) => 2,
+            (RotationToTheLeft, 1..=11) => 12 - omega,
+            (NoRotationAsOne, 0) => 1,
+            (Rotation12As11, 12..) => 11,
+            (Rotation11Refused, 11) => 12,
+            (RotationModulo12, _) => omega % 12,
+            _ => omega,
+        };
+        Settings { rho, omega }
+    }
+
+    /// The answer where a check of the settings is made too early or too late.
+    fn out_of_order(&self, inputs: &Inputs, has_short_matrix: bool, due: Refusal) -> Refusal {
+        match (self.0, due) {
+            (RotationBeforeRounds, Refusal::Rounds)
+                if !ROTATIONS.contains(&inputs.settings.omega) =>
+            {
+                Refusal::Rotation
+            }
+            (RoundsAfterMatrix, Refusal::Rounds) | (RotationAfterMatrix, Refusal::Rotation)
+                if has_short_matrix =>
+            {
+                Refusal::MatrixWords
+            }
+            _ => due,
         }
     }
 }
@@ -141,7 +199,15 @@ impl Subject for Faulty {
         if self.0 == Salt64Refused && inputs.salt.len() == 64 {
             return Err(Refusal::SaltTooLong);
         }
-        let mut answer = Proved.derive(&Inputs { t, ..*inputs }, key, matrix);
+        let settings = self.settings(inputs.settings);
+        let changed = Inputs {
+            t,
+            settings,
+            ..*inputs
+        };
+        let mut answer = Proved
+            .derive(&changed, key, matrix)
+            .map_err(|due| self.out_of_order(inputs, matrix.len() < used, due));
         if self.0 == LongSaltAfterTime && answer == Err(Refusal::SaltTooLong) && t > 255 {
             answer = Err(Refusal::TimeCost);
         }
@@ -154,6 +220,9 @@ impl Subject for Faulty {
             (Err(_), KeyOnRefusal) => key.fill(0),
             (Err(_), MatrixOnRefusal) => matrix.fill(0),
             (Ok(counts), RoundCount) => counts.rounds += 1,
+            (Ok(counts), ReducedCallCountedOnce) => {
+                counts.rounds = 12 * counts.full + counts.reduced;
+            }
             _ => (),
         }
         self.spoil_answer(answer)
@@ -186,12 +255,16 @@ impl Subject for Faulty {
         Ok(checked)
     }
 
-    fn cost(&self, given: &Parameters) -> Result<Counts, Refusal> {
+    fn cost(&self, given: &Parameters, rho: u64) -> Result<Counts, Refusal> {
         let mut one_block = *given;
         if self.0 == CostOfOneBlock {
             one_block.password_len = given.password_len.min(31);
         }
-        Proved.cost(&one_block)
+        let rho = match (self.0, rho) {
+            (CostOfOneRound, 1..=12) | (CostAcceptsNoRound, 0) => 1,
+            _ => rho,
+        };
+        Proved.cost(&one_block, rho)
     }
 
     fn walk(&self, r: u64, row0: u64) -> Result<u64, Refusal> {
@@ -310,6 +383,24 @@ fn every_fault_is_noticed() {
         ShortSaltRefusedWith10,
         Salt64Refused,
         LongSaltAfterTime,
+        UsualRounds,
+        UsualRotation,
+        RotationToTheLeft,
+        NoRoundAsOne,
+        Rounds13As12,
+        NoRotationAsOne,
+        Rotation12As11,
+        RotationModulo12,
+        Rounds12Refused,
+        Rotation11Refused,
+        RoundsRefusedWith14,
+        RotationRefusedWith13,
+        RotationBeforeRounds,
+        RoundsAfterMatrix,
+        RotationAfterMatrix,
+        ReducedCallCountedOnce,
+        CostOfOneRound,
+        CostAcceptsNoRound,
         LinesMissing,
         NewlineTaken,
         LeadingZeroTaken,

@@ -4,7 +4,7 @@
 
 use derivation_link::Proved;
 use lyra2_reference::vectors::{Reference, Subject};
-use lyra2_reference::{Checked, Counts, Inputs};
+use lyra2_reference::{Checked, Counts, Inputs, Settings};
 
 const WORDS: usize = 12 * 16_384 * 256;
 /// Words lent past the used ones.
@@ -18,6 +18,7 @@ const INPUTS: Inputs = Inputs {
     t: 1,
     r: 16_384,
     c: 256,
+    settings: Settings::USUAL,
 };
 
 /// The first place where a matrix is not what is due: zero in the used words, and the words past them kept.

@@ -1,11 +1,11 @@
-//! Document 01's limits through the static library, each from both sides, and the order of the checks.
+//! The limits of documents 01 and 02 through the static library, each from both sides, and the order of the checks.
 //!
 //! The answers are those of the C interface, numbers and all, so the tests see the places of a refused call:
 //! key, matrix and record stay as they were, and the answer's other fields become zero.
 
 use derivation_link::{input, size, sizes};
 use lyra2_reference::vectors::{Reference, Subject};
-use lyra2_reference::{derive_recorded, Counts, Inputs, Parameters};
+use lyra2_reference::{derive_recorded, Counts, Inputs, Parameters, Settings};
 
 const MAX: u64 = usize::MAX as u64;
 /// What the lent places hold before a call.
@@ -21,6 +21,7 @@ struct Call {
     t: u64,
     r: u64,
     c: u64,
+    settings: Settings,
     matrix: usize,
     record: usize,
 }
@@ -33,6 +34,7 @@ const ACCEPTED: Call = Call {
     t: 1,
     r: 3,
     c: 1,
+    settings: Settings::USUAL,
     matrix: 36,
     record: 12,
 };
@@ -59,10 +61,11 @@ fn numbers(call: Call) -> [u32; 4] {
         t: call.t,
         r: call.r,
         c: call.c,
+        settings: call.settings,
     };
     let recorded = recorded(&call, &inputs);
     let [derived, checked] = derived_and_checked(&call, &inputs);
-    let costed = cost(&inputs.parameters(call.key));
+    let costed = cost(&inputs.parameters(call.key), call.settings.rho);
     [recorded, derived, checked, costed]
 }
 
@@ -129,11 +132,11 @@ fn costs(counts: Counts) -> [u64; 3] {
 }
 
 /// What the cost question answers, once its counts are compared.
-fn cost(given: &Parameters) -> u32 {
-    let due = Reference.cost(given).map_or([0; 3], costs);
+fn cost(given: &Parameters, rho: u64) -> u32 {
+    let due = Reference.cost(given, rho).map_or([0; 3], costs);
     let mut spent = [WORD; 3];
-    let number = lyra2_sys::cost(sizes(given), &mut spent);
-    assert_eq!(spent, due, "{given:?}");
+    let number = lyra2_sys::cost(sizes(given, rho), &mut spent);
+    assert_eq!(spent, due, "{given:?}, {rho} rounds");
     number
 }
 
@@ -257,6 +260,66 @@ fn numbers_of_columns() {
     }
 }
 
+#[test]
+fn rounds_of_a_reduced_call() {
+    for rho in 1..=12 {
+        assert_eq!(changed(|call| call.settings.rho = rho), [0; 4]);
+    }
+    for rho in [
+        0,
+        13,
+        1 << 8 | 1,
+        1 << 16 | 1,
+        1 << 32,
+        1 << 32 | 1,
+        MAX - 1,
+        MAX,
+    ] {
+        assert_eq!(changed(|call| call.settings.rho = rho), [13; 4]);
+    }
+}
+
+#[test]
+fn rotations() {
+    for omega in 1..=11 {
+        assert_eq!(changed(|call| call.settings.omega = omega), [0; 4]);
+    }
+    // 13 and 14 would pass if taken modulo 12.
+    for omega in [
+        0,
+        12,
+        13,
+        14,
+        1 << 8 | 2,
+        1 << 16 | 2,
+        1 << 32,
+        1 << 32 | 2,
+        MAX - 1,
+        MAX,
+    ] {
+        assert_eq!(changed(|call| call.settings.omega = omega), [14, 14, 14, 0]);
+    }
+}
+
+/// A rotation that is never made, without visits and with three rows, is refused all the same.
+#[test]
+fn settings_without_visits() {
+    for omega in [0, 12] {
+        let mut call = fitting(0, 3, 1);
+        call.settings.omega = omega;
+        assert_eq!(numbers(call), [14, 14, 14, 0]);
+    }
+    for (rho, omega) in [(1, 1), (1, 11), (12, 1), (12, 11)] {
+        let settings = Settings { rho, omega };
+        for (r, c) in [(3, 1), (4, 2), (40, 7)] {
+            assert_fits_exactly(Call {
+                settings,
+                ..fitting(0, r, c)
+            });
+        }
+    }
+}
+
 /// Makes the condition with this number hold, in one of two ways.
 fn make_hold(call: &mut Call, number: u32, high: bool) {
     let pick = |low: u64, above: u64| if high { above } else { low };
@@ -268,15 +331,17 @@ fn make_hold(call: &mut Call, number: u32, high: bool) {
         4 => call.t = pick(256, MAX),
         5 => call.r = pick(2, MAX),
         6 => call.c = pick(0, MAX),
+        13 => call.settings.rho = pick(0, 13),
+        14 => call.settings.omega = pick(0, 12),
         7 => call.matrix = pick(0, 35) as usize,
         _ => call.record = pick(0, 11) as usize,
     }
 }
 
 /// The checks of the recorded derivation, in their order.
-const ORDER: [u32; 9] = [1, 2, 3, 10, 4, 5, 6, 7, 8];
+const ORDER: [u32; 11] = [1, 2, 3, 10, 4, 5, 6, 13, 14, 7, 8];
 /// How many of them, from the first on, the recorded derivation, the plain one, the check and the cost question have.
-const CHECKS: [usize; 4] = [9, 8, 8, 7];
+const CHECKS: [usize; 4] = [11, 10, 10, 8];
 
 #[test]
 fn of_several_refusals_the_first_in_the_order_is_returned() {
@@ -296,7 +361,7 @@ fn of_several_refusals_the_first_in_the_order_is_returned() {
         }
         sets += 1;
     }
-    assert_eq!(sets, 3 * (1 << 7) - 1);
+    assert_eq!(sets, 3 * (1 << 9) - 1);
 }
 
 /// The cost question takes lengths that no buffer has.
@@ -310,26 +375,29 @@ fn cost_of_the_largest_numbers() {
         r: 16_384,
         c: 256,
     };
-    assert_eq!(cost(&accepted), 0);
-    type Place = fn(&mut Parameters) -> &mut u64;
-    let places: [(u32, Place); 6] = [
-        (1, |given| &mut given.key_len),
-        (2, |given| &mut given.password_len),
-        (10, |given| &mut given.salt_len),
-        (4, |given| &mut given.t),
-        (5, |given| &mut given.r),
-        (6, |given| &mut given.c),
+    for rho in 1..=12 {
+        assert_eq!(cost(&accepted, rho), 0);
+    }
+    type Place = fn(&mut (Parameters, u64)) -> &mut u64;
+    let places: [(u32, Place); 7] = [
+        (1, |(given, _)| &mut given.key_len),
+        (2, |(given, _)| &mut given.password_len),
+        (10, |(given, _)| &mut given.salt_len),
+        (4, |(given, _)| &mut given.t),
+        (5, |(given, _)| &mut given.r),
+        (6, |(given, _)| &mut given.c),
+        (13, |(_, rho)| rho),
     ];
     for (at, (number, place)) in places.iter().enumerate() {
         for value in [MAX, MAX - 1, 1 << 63, 1 << 32 | 8] {
-            let mut given = accepted;
-            *place(&mut given) = value;
-            assert_eq!(cost(&given), *number);
+            let mut asked = (accepted, 12);
+            *place(&mut asked) = value;
+            assert_eq!(cost(&asked.0, asked.1), *number);
             // The places after it may hold anything.
             for (_, later) in &places[at + 1..] {
-                *later(&mut given) = MAX;
+                *later(&mut asked) = MAX;
             }
-            assert_eq!(cost(&given), *number);
+            assert_eq!(cost(&asked.0, asked.1), *number);
         }
     }
 }

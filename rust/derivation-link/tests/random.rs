@@ -4,27 +4,28 @@ use derivation_link::compare::compare;
 use derivation_link::Proved;
 use lyra2_reference::vectors::random::{question, Random};
 use lyra2_reference::vectors::{run, Case, Coverage, Reference};
-use lyra2_reference::Refusal;
+use lyra2_reference::{Refusal, Settings};
 use std::collections::BTreeSet;
 
 const FIRST_SEED: u64 = 0x4c79_7261_3200;
 const COMPARISONS: u64 = 20_000;
 const QUESTIONS: u64 = 3_000;
 
-/// Lengths of key, password and salt and time costs of the accepted calls, and the refusals of the others.
+/// Lengths of key, password and salt, time costs and settings of the accepted calls, and the refusals of the others.
 #[derive(Default)]
 struct Met {
     keys: BTreeSet<u64>,
     passwords: BTreeSet<u64>,
     salts: BTreeSet<u64>,
     times: BTreeSet<u64>,
+    settings: BTreeSet<(u64, u64)>,
     refusals: BTreeSet<u8>,
     /// Of login lines; 0 is an accepted one.
     lines: BTreeSet<u8>,
 }
 
 #[test]
-fn every_length_and_every_refusal_is_met_and_the_two_programs_agree() {
+fn every_length_setting_and_refusal_is_met_and_the_two_programs_agree() {
     let mut met = Met::default();
     for seed in FIRST_SEED..FIRST_SEED + COMPARISONS {
         let compared = compare(&Proved, seed)
@@ -39,12 +40,16 @@ fn every_length_and_every_refusal_is_met_and_the_two_programs_agree() {
         met.passwords.insert(compared.sizes.password_len);
         met.salts.insert(compared.sizes.salt_len);
         met.times.insert(compared.sizes.t);
+        let Settings { rho, omega } = compared.settings;
+        met.settings.insert((rho, omega));
     }
     assert_eq!(met.keys, (1..=1024).collect());
     assert_eq!(met.passwords, (0..=1024).collect());
     assert_eq!(met.salts, (8..=64).collect());
     assert!((0..=9).all(|t| met.times.contains(&t)));
-    assert_eq!(met.refusals, (1..=8).chain([10]).collect());
+    let pairs = (1..=12).flat_map(|rho| (1..=11).map(move |omega| (rho, omega)));
+    assert_eq!(met.settings, pairs.collect());
+    assert_eq!(met.refusals, (1..=8).chain([10, 13, 14]).collect());
     assert_eq!(met.lines, [0, 1, 3, 4, 5, 6, 10, 11, 12].into());
 }
 

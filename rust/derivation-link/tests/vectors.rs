@@ -88,7 +88,7 @@ fn checks() {
 
 #[test]
 fn cost_questions() {
-    let wanted = |case: &Case| matches!(case.question, Question::Cost(_));
+    let wanted = |case: &Case| matches!(case.question, Question::Cost { .. });
     assert!(run_lines(wanted) >= 120);
 }
 

@@ -44,10 +44,32 @@
 //! # Ok::<(), lyra2::Refusal>(())
 //! ```
 //!
+//! # Rounds and rotation
+//!
+//! A reduced call usually has one round, and the rotation is by two words. [`Parameters`] alone stand for that;
+//! [`Settings`] can have up to twelve rounds and any other rotation. The key is another one then, and a check has to go by
+//! the settings that it was made with.
+//!
+//! ```
+//! use lyra2::{check, derive, Parameters, Settings};
+//!
+//! let parameters = Parameters { time: 1, rows: 8, columns: 4 };
+//! let settings = Settings { rounds: 2, rotation: 3, ..parameters.into() };
+//! let (mut matrix, mut key) = (parameters.matrix()?, [0; 32]);
+//! let counts = derive(b"password", b"saltsalt", settings, &mut key, &mut matrix)?;
+//!
+//! assert_eq!(counts.rounds, 12 * counts.full + 2 * counts.reduced);
+//! assert!(check(b"password", b"saltsalt", settings, &key, &mut matrix)?.same);
+//! let other = Settings { rotation: 4, ..settings };
+//! assert!(!check(b"password", b"saltsalt", other, &key, &mut matrix)?.same);
+//! assert!(!check(b"password", b"saltsalt", parameters, &key, &mut matrix)?.same);
+//! # Ok::<(), Box<dyn std::error::Error>>(())
+//! ```
+//!
 //! # A login line
 //!
-//! A login line is text that holds all that a check needs beside the password: T, R, C, the salt and the key.
-//! docs/LOGIN-LINES.md describes it. The caller lends the outputs; [`LINE_MAX`], [`SALT_MAX`] and [`KEY_MAX`] bytes are
+//! A login line is text that holds all that a check needs beside the password: T, R, C, the salt and the key, which goes
+//! with the usual rounds and rotation. docs/LOGIN-LINES.md describes it. The caller lends the outputs; [`LINE_MAX`], [`SALT_MAX`] and [`KEY_MAX`] bytes are
 //! never too few. The line is as secret as the key in it.
 //!
 //! ```
@@ -93,14 +115,15 @@
 //! # A refusal
 //!
 //! The checks run in the order that an operation's documentation gives, and the first that applies is returned.
-//! Asked before memory is set aside, [`cost`] tells whether a call with a matrix that fits will be accepted.
+//! Asked before memory is set aside, [`cost`] tells whether a call with a matrix that fits will be accepted, but for the
+//! rotation, which it does not ask for.
 //!
 //! ```
-//! use lyra2::{cost, Lengths, Parameters, Refusal};
+//! use lyra2::{cost, Lengths, Parameters, Refusal, USUAL_ROUNDS};
 //!
 //! let lengths = Lengths { key: 32, password: 8, salt: 65 };
 //! let parameters = Parameters { time: 256, rows: 64, columns: 16 };
-//! let refusal = cost(lengths, parameters).unwrap_err();
+//! let refusal = cost(lengths, parameters, USUAL_ROUNDS).unwrap_err();
 //!
 //! assert_eq!(refusal, Refusal::SaltTooLong);
 //! assert_eq!(refusal.number(), 10);
@@ -121,7 +144,7 @@ pub use operations::{
     check, cost, derive, derive_recorded, walk, Checked, Counts, Recorded, STATE_WORDS,
 };
 pub use parameters::{
-    Lengths, Parameters, CELL_WORDS, COLUMNS, KEY_LENGTHS, PASSWORD_LENGTHS, ROWS, SALT_LENGTHS,
-    TIME_COSTS,
+    Lengths, Parameters, Settings, CELL_WORDS, COLUMNS, KEY_LENGTHS, PASSWORD_LENGTHS, ROTATIONS,
+    ROUNDS, ROWS, SALT_LENGTHS, TIME_COSTS, USUAL_ROTATION, USUAL_ROUNDS,
 };
 pub use refusal::Refusal;

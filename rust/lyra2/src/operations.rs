@@ -1,6 +1,6 @@
 //! The operations. Each hands its arguments on to the library and its answer back.
 
-use crate::parameters::{Lengths, Parameters};
+use crate::parameters::{Lengths, Parameters, Settings};
 use crate::refusal::Refusal;
 
 /// Words of the sponge's state.
@@ -13,7 +13,7 @@ pub struct Counts {
     pub full: u64,
     /// Reduced calls.
     pub reduced: u64,
-    /// Rounds of all calls together.
+    /// Rounds of all calls together: 12 for a full one, and for a reduced one as many as the settings say.
     pub rounds: u64,
 }
 
@@ -47,29 +47,40 @@ pub struct Recorded {
     pub counts: Counts,
 }
 
-fn input<'a>(password: &'a [u8], salt: &'a [u8], parameters: Parameters) -> lyra2_sys::Input<'a> {
+fn input<'a>(
+    password: &'a [u8],
+    salt: &'a [u8],
+    settings: impl Into<Settings>,
+) -> lyra2_sys::Input<'a> {
+    let Settings {
+        parameters,
+        rounds,
+        rotation,
+    } = settings.into();
     lyra2_sys::Input {
         password,
         salt,
         time: parameters.time,
         rows: parameters.rows,
         columns: parameters.columns,
+        rounds,
+        rotation,
     }
 }
 
 /// The plain derivation: fills the key, whose length is the key length, and leaves zeros in the used matrix.
 ///
-/// Words of the matrix past the used ones keep their contents. Refusals, in the order of the checks: 1, 2, 3, 10,
-/// 4, 5, 6, 7.
+/// [`Parameters`] for settings stand for the usual choice. Words of the matrix past the used ones keep their contents.
+/// Refusals, in the order of the checks: 1, 2, 3, 10, 4, 5, 6, 13, 14, 7.
 pub fn derive(
     password: &[u8],
     salt: &[u8],
-    parameters: Parameters,
+    settings: impl Into<Settings>,
     key: &mut [u8],
     matrix: &mut [u64],
 ) -> Result<Counts, Refusal> {
     let mut counts = [0; 3];
-    let number = lyra2_sys::derive(input(password, salt, parameters), key, matrix, &mut counts);
+    let number = lyra2_sys::derive(input(password, salt, settings), key, matrix, &mut counts);
     Refusal::accepted(number)?;
     Ok(Counts::stored(counts))
 }
@@ -78,7 +89,7 @@ pub fn derive(
 /// of each visit. With T = 0 there is no visit and no used record, so an empty one is enough.
 ///
 /// Words of the matrix and the record past the used ones keep their contents. Refusals, in the order of the checks: 1, 2, 3, 10,
-/// 4, 5, 6, 7, 8.
+/// 4, 5, 6, 13, 14, 7, 8.
 ///
 /// ```
 /// use lyra2::{derive_recorded, Parameters};
@@ -98,14 +109,14 @@ pub fn derive(
 pub fn derive_recorded(
     password: &[u8],
     salt: &[u8],
-    parameters: Parameters,
+    settings: impl Into<Settings>,
     key: &mut [u8],
     matrix: &mut [u64],
     record: &mut [u64],
 ) -> Result<Recorded, Refusal> {
     let (mut state, mut counts) = ([0; STATE_WORDS], [0; 3]);
     let number = lyra2_sys::derive_recorded(
-        input(password, salt, parameters),
+        input(password, salt, settings),
         key,
         matrix,
         record,
@@ -126,13 +137,13 @@ pub fn derive_recorded(
 pub fn check(
     password: &[u8],
     salt: &[u8],
-    parameters: Parameters,
+    settings: impl Into<Settings>,
     stored: &[u8],
     matrix: &mut [u64],
 ) -> Result<Checked, Refusal> {
     let (mut same, mut counts) = (0, [0; 3]);
     let number = lyra2_sys::check(
-        input(password, salt, parameters),
+        input(password, salt, settings),
         stored,
         matrix,
         &mut same,
@@ -145,9 +156,9 @@ pub fn check(
     })
 }
 
-/// The cost question: what a derivation or a check spends, with nothing derived. Refusals, in the order of the
-/// checks: 1, 2, 3, 10, 4, 5, 6.
-pub fn cost(lengths: Lengths, parameters: Parameters) -> Result<Counts, Refusal> {
+/// The cost question: what a derivation or a check spends, with nothing derived. The rotation costs nothing, so only the
+/// rounds of a reduced call are asked for. Refusals, in the order of the checks: 1, 2, 3, 10, 4, 5, 6, 13.
+pub fn cost(lengths: Lengths, parameters: Parameters, rounds: usize) -> Result<Counts, Refusal> {
     let mut counts = [0; 3];
     let sizes = lyra2_sys::Sizes {
         key: lengths.key,
@@ -156,6 +167,7 @@ pub fn cost(lengths: Lengths, parameters: Parameters) -> Result<Counts, Refusal>
         time: parameters.time,
         rows: parameters.rows,
         columns: parameters.columns,
+        rounds,
     };
     let number = lyra2_sys::cost(sizes, &mut counts);
     Refusal::accepted(number)?;

@@ -15,6 +15,15 @@ pub const TIME_COSTS: RangeInclusive<usize> = 0..=255;
 pub const ROWS: RangeInclusive<usize> = 3..=16_384;
 /// Values of C that are accepted.
 pub const COLUMNS: RangeInclusive<usize> = 1..=256;
+/// Rounds of a reduced call, ρ, that are accepted.
+pub const ROUNDS: RangeInclusive<usize> = 1..=12;
+/// Words of the rotation, ω, that are accepted.
+pub const ROTATIONS: RangeInclusive<usize> = 1..=11;
+
+/// The usual number of rounds of a reduced call.
+pub const USUAL_ROUNDS: usize = 1;
+/// The usual rotation.
+pub const USUAL_ROTATION: usize = 2;
 
 /// Words of a cell of the matrix.
 pub const CELL_WORDS: usize = 12;
@@ -58,6 +67,44 @@ impl Parameters {
     /// Memory for the record: [`Parameters::record_words`] zeros, which with T = 0 are none.
     pub fn record(self) -> Result<Memory, NoMemory> {
         zeros(self.record_words())
+    }
+}
+
+/// All that a derivation or a check goes by beside password, salt and key length.
+///
+/// [`Parameters`] alone stand for the usual choice, [`USUAL_ROUNDS`] and [`USUAL_ROTATION`]; every operation that takes
+/// settings takes them too. Another choice is written as a change of that one:
+///
+/// ```
+/// use lyra2::{Parameters, Settings};
+///
+/// let parameters = Parameters { time: 1, rows: 64, columns: 16 };
+/// let heavier = Settings { rounds: 4, ..parameters.into() };
+/// assert_eq!((heavier.parameters, heavier.rotation), (parameters, 2));
+/// ```
+///
+/// Unlike T, R and C the rounds and the rotation are not absorbed with the input, and no key shows which they were. Who
+/// stores a key of another choice stores the choice beside it; a login line has no room for it.
+#[derive(Clone, Copy, Debug, PartialEq, Eq)]
+pub struct Settings {
+    /// T, R and C, which give the sizes of matrix and record.
+    pub parameters: Parameters,
+    /// The rounds of a reduced call, ρ. More of them make a derivation dearer over the same matrix.
+    pub rounds: usize,
+    /// The rotation ω. Word j of an output that is rotated is its word (j + ω) mod 12, and a visit picks rows and columns
+    /// by the words 0, ω, 2·ω and 3·ω of the output, each mod 12. With T = 0 and R up to 4 nothing that was rotated is
+    /// read again, and all rotations give one key.
+    pub rotation: usize,
+}
+
+/// The usual choice.
+impl From<Parameters> for Settings {
+    fn from(parameters: Parameters) -> Settings {
+        Settings {
+            parameters,
+            rounds: USUAL_ROUNDS,
+            rotation: USUAL_ROTATION,
+        }
     }
 }
 

@@ -1,6 +1,8 @@
 //! The refusals: their numbers and their sentences.
 
-use crate::parameters::{COLUMNS, KEY_LENGTHS, PASSWORD_LENGTHS, ROWS, SALT_LENGTHS, TIME_COSTS};
+use crate::parameters::{
+    COLUMNS, KEY_LENGTHS, PASSWORD_LENGTHS, ROTATIONS, ROUNDS, ROWS, SALT_LENGTHS, TIME_COSTS,
+};
 use std::fmt;
 
 /// Why a call was turned down. The value of a case is its number. Refusals are not ordered: the numbers do not
@@ -32,11 +34,15 @@ pub enum Refusal {
     LineForm = 11,
     /// A lent output is too short for what is to be written there.
     OutputTooShort = 12,
+    /// The rounds of a reduced call are outside their limits.
+    Rounds = 13,
+    /// The rotation is outside its limits.
+    Rotation = 14,
 }
 
 impl Refusal {
     /// Every refusal, by number. The order of an operation's checks is another; its documentation gives it.
-    pub const ALL: [Refusal; 12] = [
+    pub const ALL: [Refusal; 14] = [
         Refusal::KeyLength,
         Refusal::PasswordLength,
         Refusal::SaltTooShort,
@@ -49,6 +55,8 @@ impl Refusal {
         Refusal::SaltTooLong,
         Refusal::LineForm,
         Refusal::OutputTooShort,
+        Refusal::Rounds,
+        Refusal::Rotation,
     ];
 
     /// The refusal's number.
@@ -96,6 +104,8 @@ impl fmt::Display for Refusal {
             Refusal::OutputTooShort => {
                 return f.write_str("the outputs must have room for what is written there");
             }
+            Refusal::Rounds => ("the rounds of a reduced call must be", ROUNDS, ""),
+            Refusal::Rotation => ("the rotation must be", ROTATIONS, " words"),
         };
         write!(f, "{what} {} to {}{unit}", limits.start(), limits.end())
     }

@@ -1,8 +1,9 @@
 //! The crate's constants and sizes against what the library accepts, and the refusals' words.
 
 use lyra2::{
-    check, cost, derive, derive_recorded, walk, Lengths, Parameters, Refusal, COLUMNS, KEY_LENGTHS,
-    PASSWORD_LENGTHS, ROWS, SALT_LENGTHS, TIME_COSTS,
+    check, cost, derive, derive_recorded, walk, Lengths, Parameters, Refusal, Settings, COLUMNS,
+    KEY_LENGTHS, PASSWORD_LENGTHS, ROTATIONS, ROUNDS, ROWS, SALT_LENGTHS, TIME_COSTS,
+    USUAL_ROTATION, USUAL_ROUNDS,
 };
 use std::collections::BTreeSet;
 use std::ops::RangeInclusive;
@@ -49,42 +50,179 @@ fn the_named_limits_are_the_librarys() {
         columns,
     };
     limits_hold(KEY_LENGTHS, [Refusal::KeyLength; 2], |n| {
-        cost(lengths(n, 31, 8), SMALLEST)
+        cost(lengths(n, 31, 8), SMALLEST, 1)
     });
     limits_hold(PASSWORD_LENGTHS, [Refusal::PasswordLength; 2], |n| {
-        cost(lengths(32, n, 8), SMALLEST)
+        cost(lengths(32, n, 8), SMALLEST, 1)
     });
     let salts = [Refusal::SaltTooShort, Refusal::SaltTooLong];
-    limits_hold(SALT_LENGTHS, salts, |n| cost(lengths(32, 31, n), SMALLEST));
+    limits_hold(SALT_LENGTHS, salts, |n| {
+        cost(lengths(32, 31, n), SMALLEST, 1)
+    });
     limits_hold(TIME_COSTS, [Refusal::TimeCost; 2], |n| {
-        cost(LENGTHS, of(n, 3, 1))
+        cost(LENGTHS, of(n, 3, 1), 1)
     });
-    limits_hold(ROWS, [Refusal::Rows; 2], |n| cost(LENGTHS, of(1, n, 1)));
+    limits_hold(ROWS, [Refusal::Rows; 2], |n| cost(LENGTHS, of(1, n, 1), 1));
     limits_hold(COLUMNS, [Refusal::Columns; 2], |n| {
-        cost(LENGTHS, of(1, 3, n))
+        cost(LENGTHS, of(1, 3, n), 1)
     });
+}
+
+/// The three operations that take settings, over a matrix and a record of the smallest size. What a refused call leaves
+/// must be what was there.
+fn with_settings(rounds: usize, rotation: usize) -> [Result<lyra2::Counts, Refusal>; 3] {
+    let settings = Settings {
+        parameters: SMALLEST,
+        rounds,
+        rotation,
+    };
+    let (mut key, mut matrix, mut record) = ([7; 32], [7; 36], [7; 12]);
+    let (password, salt) = (b"", b"saltsalt");
+    let recorded = derive_recorded(password, salt, settings, &mut key, &mut matrix, &mut record);
+    if recorded.is_err() {
+        assert_eq!((key, matrix, record), ([7; 32], [7; 36], [7; 12]));
+    }
+    let mut matrix = [7; 36];
+    let checked = check(password, salt, settings, &key, &mut matrix);
+    let derived = derive(password, salt, settings, &mut key, &mut matrix);
+    if derived.is_err() {
+        assert_eq!((key, matrix), ([7; 32], [7; 36]));
+    }
+    [
+        recorded.map(|recorded| recorded.counts),
+        checked.map(|checked| checked.counts),
+        derived,
+    ]
+}
+
+#[test]
+fn the_named_limits_of_rounds_and_rotation_are_the_librarys() {
+    limits_hold(ROUNDS, [Refusal::Rounds; 2], |n| cost(LENGTHS, SMALLEST, n));
+    for place in 0..3 {
+        limits_hold(ROUNDS, [Refusal::Rounds; 2], |n| {
+            with_settings(n, 11)[place]
+        });
+        limits_hold(ROTATIONS, [Refusal::Rotation; 2], |n| {
+            with_settings(12, n)[place]
+        });
+    }
+}
+
+/// Each of the limits' values counts as many rounds as it says, and the rotation none.
+#[test]
+fn rounds_are_counted_and_the_rotation_is_not() {
+    for rounds in ROUNDS {
+        let due = cost(LENGTHS, SMALLEST, rounds).expect("within the limits");
+        assert_eq!((due.full, due.reduced), (2, 6));
+        assert_eq!(due.rounds, 24 + 6 * rounds as u64);
+        for rotation in ROTATIONS {
+            assert_eq!(with_settings(rounds, rotation), [Ok(due); 3]);
+        }
+    }
+}
+
+/// Setup rotates while it fills the fourth row, and reads what was rotated while it fills the fifth; so do the visits.
+#[test]
+fn the_rotation_counts_where_it_is_read_again() {
+    for (time, rows, due) in [(0, 3, 1), (0, 4, 1), (0, 5, 11), (1, 3, 11)] {
+        let keys: BTreeSet<_> = ROTATIONS
+            .map(|rotation| {
+                let parameters = Parameters {
+                    time,
+                    rows,
+                    columns: 2,
+                };
+                let settings = Settings {
+                    rotation,
+                    ..parameters.into()
+                };
+                let mut key = [0; 32];
+                derive(b"", b"saltsalt", settings, &mut key, &mut [0; 120]).expect("accepted");
+                key
+            })
+            .collect();
+        assert_eq!(keys.len(), due, "T = {time}, R = {rows}");
+    }
+}
+
+#[test]
+fn parameters_alone_are_the_usual_settings() {
+    assert_eq!((USUAL_ROUNDS, USUAL_ROTATION), (1, 2));
+    let usual = Settings {
+        parameters: SMALLEST,
+        rounds: USUAL_ROUNDS,
+        rotation: USUAL_ROTATION,
+    };
+    assert_eq!(Settings::from(SMALLEST), usual);
+}
+
+/// With everything wrong at once the first check refuses; put right one after another, each of them does.
+#[test]
+fn the_first_refusal_is_told() {
+    let right = Settings::from(SMALLEST);
+    let columns = |columns, rounds, rotation| Settings {
+        parameters: Parameters {
+            columns,
+            ..SMALLEST
+        },
+        rounds,
+        rotation,
+    };
+    let mut key = [7; 32];
+    for (settings, refusal, cost_refusal) in [
+        (columns(0, 0, 0), Refusal::Columns, Some(Refusal::Columns)),
+        (
+            columns(257, 13, 12),
+            Refusal::Columns,
+            Some(Refusal::Columns),
+        ),
+        (columns(1, 0, 0), Refusal::Rounds, Some(Refusal::Rounds)),
+        (columns(1, 13, 12), Refusal::Rounds, Some(Refusal::Rounds)),
+        (columns(1, 1, 0), Refusal::Rotation, None),
+        (columns(1, 1, 12), Refusal::Rotation, None),
+        (right, Refusal::MatrixWords, None),
+    ] {
+        let (password, salt) = (b"", b"saltsalt");
+        let recorded = derive_recorded(password, salt, settings, &mut key, &mut [], &mut []);
+        assert_eq!(recorded, Err(refusal), "{settings:?}");
+        let derived = derive(password, salt, settings, &mut key, &mut []);
+        assert_eq!(derived, Err(refusal), "{settings:?}");
+        let checked = check(password, salt, settings, &key, &mut []);
+        assert_eq!(checked, Err(refusal), "{settings:?}");
+        let cost = cost(LENGTHS, settings.parameters, settings.rounds);
+        assert_eq!(cost.err(), cost_refusal, "{settings:?}");
+    }
+    let (mut matrix, no_record) = ([7; 36], &mut []);
+    let recorded = derive_recorded(b"", b"saltsalt", right, &mut key, &mut matrix, no_record);
+    assert_eq!(recorded, Err(Refusal::RecordWords));
+    assert_eq!((key, matrix), ([7; 32], [7; 36]));
 }
 
 #[test]
 fn buffers_of_the_named_sizes_are_accepted_and_shorter_ones_are_not() {
-    for (time, rows, columns) in [
-        (0, 3, 1),
-        (0, 40, 9),
-        (1, 3, 1),
-        (2, 5, 7),
-        (255, 3, 2),
-        (1, 300, 16),
+    for (time, rows, columns, rounds, rotation) in [
+        (0, 3, 1, 1, 2),
+        (0, 40, 9, 12, 11),
+        (1, 3, 1, 1, 1),
+        (2, 5, 7, 2, 6),
+        (255, 3, 2, 3, 2),
+        (1, 300, 16, 1, 2),
     ] {
         let parameters = Parameters {
             time,
             rows,
             columns,
         };
+        let settings = Settings {
+            parameters,
+            rounds,
+            rotation,
+        };
         let mut matrix = vec![7; parameters.matrix_words().expect("a small matrix")];
         let mut record = vec![7; parameters.record_words().expect("a small record")];
         let (words, mut key) = (matrix.len(), [7; 32]);
         let mut derive = |matrix: &mut [u64], record: &mut [u64]| {
-            derive_recorded(b"", b"saltsalt", parameters, &mut key, matrix, record)
+            derive_recorded(b"", b"saltsalt", settings, &mut key, matrix, record)
         };
         // Without visits there is no word to leave out.
         if let Some(short_record) = record.get_mut(1..) {
@@ -135,7 +273,7 @@ fn numbers_without_a_size_are_refused() {
     };
     assert_eq!(parameters.matrix_words(), None);
     let refused = Err(Refusal::Rows);
-    assert_eq!(cost(LENGTHS, parameters), refused);
+    assert_eq!(cost(LENGTHS, parameters, USUAL_ROUNDS), refused);
     let mut key = [1; 32];
     assert_eq!(
         derive(b"", b"saltsalt", parameters, &mut key, &mut []),
@@ -158,9 +296,9 @@ fn walk_questions() {
 }
 
 #[test]
-fn refusals_are_numbered_from_1_to_12_and_each_has_its_sentence() {
+fn refusals_are_numbered_from_1_to_14_and_each_has_its_sentence() {
     let numbers = Refusal::ALL.map(Refusal::number);
-    assert_eq!(numbers, [1, 2, 3, 4, 5, 6, 7, 8, 9, 10, 11, 12]);
+    assert!(numbers.into_iter().eq(1..=14), "{numbers:?}");
     let sentences = Refusal::ALL.map(|refusal| refusal.to_string());
     let named = [
         "1 to 1024",
@@ -175,6 +313,8 @@ fn refusals_are_numbered_from_1_to_12_and_each_has_its_sentence() {
         "at most 64 bytes",
         "$lyra2$t=T,r=R,c=C$SALT$KEY",
         "have room",
+        "rounds of a reduced call must be 1 to 12",
+        "rotation must be 1 to 11 words",
     ];
     for (sentence, limit) in sentences.iter().zip(named) {
         assert!(sentence.contains(limit), "{sentence}");

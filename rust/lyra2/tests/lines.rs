@@ -1,8 +1,8 @@
 //! Login lines: texts of known bytes, the limits, the sizes to lend, and what is left alone.
 
 use lyra2::{
-    read_line, write_line, Parameters, Refusal, COLUMNS, KEY_LENGTHS, KEY_MAX, LINE_MAX, ROWS,
-    SALT_LENGTHS, SALT_MAX, TIME_COSTS,
+    check, derive, read_line, write_line, Parameters, Refusal, Settings, COLUMNS, KEY_LENGTHS,
+    KEY_MAX, LINE_MAX, ROWS, SALT_LENGTHS, SALT_MAX, TIME_COSTS,
 };
 use lyra2_reference::vectors::random::Random;
 use std::ops::RangeInclusive;
@@ -331,6 +331,27 @@ fn lines_at_random_are_read_as_written() {
         });
         let line = written(parameters, &salt, &key, LINE_MAX).expect("within the limits");
         assert_eq!(read(line.as_bytes(), ROOM), Ok((parameters, salt, key)));
+    }
+}
+
+/// A line does not say what its key was made with, so a check goes by the usual settings.
+#[test]
+fn a_line_goes_with_the_usual_settings() {
+    let usual = Settings::from(SMALLEST);
+    let rounds = Settings { rounds: 2, ..usual };
+    let rotation = Settings {
+        rotation: 3,
+        ..usual
+    };
+    for (settings, due) in [(usual, true), (rounds, false), (rotation, false)] {
+        let (mut key, mut matrix, salt) = ([0; 32], [0; 36], b"saltsalt");
+        derive(b"pass", salt, settings, &mut key, &mut matrix).expect("accepted");
+        let line = written(settings.parameters, salt, &key, LINE_MAX).expect("within the limits");
+        let (parameters, salt, key) = read(line.as_bytes(), ROOM).expect("a good line");
+        let checked = check(b"pass", &salt, parameters, &key, &mut matrix).expect("accepted");
+        assert_eq!(checked.same, due, "{settings:?}");
+        let checked = check(b"pass", &salt, settings, &key, &mut matrix).expect("accepted");
+        assert!(checked.same, "{settings:?}");
     }
 }
 

@@ -1,6 +1,6 @@
 //! The memory that the crate sets aside has the sizes that it names, and derives the second program's key.
 
-use lyra2::{check, derive, derive_recorded, NoMemory, Parameters};
+use lyra2::{check, derive, derive_recorded, NoMemory, Parameters, Settings};
 use lyra2_reference::Inputs;
 
 const SHAPES: [(usize, usize, usize); 5] = [
@@ -40,13 +40,23 @@ fn sizes_without_a_number_are_no_memory() {
 
 #[test]
 fn every_operation_works_in_it() {
-    for parameters in SHAPES.map(parameters) {
+    let choices = [(1, 2), (3, 5), (12, 1), (2, 11), (1, 8)];
+    for (parameters, (rounds, rotation)) in SHAPES.map(parameters).into_iter().zip(choices) {
+        let settings = Settings {
+            parameters,
+            rounds,
+            rotation,
+        };
         let inputs = Inputs {
             password: b"password",
             salt: b"saltsalt",
             t: parameters.time as u64,
             r: parameters.rows as u64,
             c: parameters.columns as u64,
+            settings: lyra2_reference::Settings {
+                rho: rounds as u64,
+                omega: rotation as u64,
+            },
         };
         let mut matrix = parameters.matrix().expect("a few megabytes");
         let mut record = parameters.record().expect("a few megabytes");
@@ -54,23 +64,16 @@ fn every_operation_works_in_it() {
         lyra2_reference::derive_recorded(&inputs, &mut due, &mut end, &mut visits)
             .expect("no check refuses");
         let (password, salt, mut key) = (inputs.password, inputs.salt, [0; 32]);
-        derive(password, salt, parameters, &mut key, &mut matrix).expect("accepted");
-        assert_eq!(key, due, "{parameters:?}");
-        let checked = check(password, salt, parameters, &key, &mut matrix).expect("accepted");
-        assert!(checked.same, "{parameters:?}");
+        derive(password, salt, settings, &mut key, &mut matrix).expect("accepted");
+        assert_eq!(key, due, "{settings:?}");
+        let checked = check(password, salt, settings, &key, &mut matrix).expect("accepted");
+        assert!(checked.same, "{settings:?}");
         key.fill(0);
-        derive_recorded(
-            password,
-            salt,
-            parameters,
-            &mut key,
-            &mut matrix,
-            &mut record,
-        )
-        .expect("accepted");
+        derive_recorded(password, salt, settings, &mut key, &mut matrix, &mut record)
+            .expect("accepted");
         assert!(
             key == due && matrix[..] == end && record[..] == visits,
-            "{parameters:?}"
+            "{settings:?}"
         );
     }
 }

@@ -2,7 +2,7 @@
 //! `mlock` take requests or refuse them as a test says.
 
 use lyra2::{derive, Granted, Parameters};
-use lyra2_reference::Inputs;
+use lyra2_reference::{Inputs, Settings};
 use std::ffi::{c_int, c_void};
 use std::sync::Mutex;
 
@@ -66,6 +66,7 @@ fn due_key(parameters: Parameters) -> [u8; 32] {
         t: parameters.time as u64,
         r: parameters.rows as u64,
         c: parameters.columns as u64,
+        settings: Settings::USUAL,
     };
     let mut key = [0; 32];
     let mut matrix = vec![0; 12 * parameters.rows * parameters.columns];

@@ -3,7 +3,7 @@
 //! The runs of the second program's package look at the lent buffers too, so a refusal that changed one, or a
 //! word written past the used ones, fails here as a wrong answer does.
 
-use lyra2::{Lengths, Parameters};
+use lyra2::{Lengths, Parameters, Settings};
 use lyra2_reference::vectors::{read, run, Case, Coverage, Question, Subject};
 use lyra2_reference::{Checked, Counts, Inputs, LineParts, LineValues, Recorded, Refusal};
 
@@ -17,11 +17,15 @@ fn size(number: u64) -> usize {
     usize::try_from(number).expect("the library is built for numbers of 64 bits")
 }
 
-fn parameters(inputs: &Inputs) -> Parameters {
-    Parameters {
-        time: size(inputs.t),
-        rows: size(inputs.r),
-        columns: size(inputs.c),
+fn settings(inputs: &Inputs) -> Settings {
+    Settings {
+        parameters: Parameters {
+            time: size(inputs.t),
+            rows: size(inputs.r),
+            columns: size(inputs.c),
+        },
+        rounds: size(inputs.settings.rho),
+        rotation: size(inputs.settings.omega),
     }
 }
 
@@ -46,8 +50,7 @@ impl Subject for Safe {
         record: &mut [u64],
     ) -> Option<Result<Recorded, Refusal>> {
         let (password, salt) = (inputs.password, inputs.salt);
-        let answer =
-            lyra2::derive_recorded(password, salt, parameters(inputs), key, matrix, record);
+        let answer = lyra2::derive_recorded(password, salt, settings(inputs), key, matrix, record);
         let recorded = |answer: lyra2::Recorded| Recorded {
             state: answer.state,
             counts: counts(answer.counts),
@@ -62,7 +65,7 @@ impl Subject for Safe {
         matrix: &mut [u64],
     ) -> Result<Counts, Refusal> {
         let (password, salt) = (inputs.password, inputs.salt);
-        let answer = lyra2::derive(password, salt, parameters(inputs), key, matrix);
+        let answer = lyra2::derive(password, salt, settings(inputs), key, matrix);
         answer.map(counts).map_err(refusal)
     }
 
@@ -73,7 +76,7 @@ impl Subject for Safe {
         matrix: &mut [u64],
     ) -> Result<Checked, Refusal> {
         let (password, salt) = (inputs.password, inputs.salt);
-        let answer = lyra2::check(password, salt, parameters(inputs), stored, matrix);
+        let answer = lyra2::check(password, salt, settings(inputs), stored, matrix);
         let checked = |answer: lyra2::Checked| Checked {
             matches: answer.same,
             counts: counts(answer.counts),
@@ -81,7 +84,7 @@ impl Subject for Safe {
         answer.map(checked).map_err(refusal)
     }
 
-    fn cost(&self, given: &lyra2_reference::Parameters) -> Result<Counts, Refusal> {
+    fn cost(&self, given: &lyra2_reference::Parameters, rho: u64) -> Result<Counts, Refusal> {
         let lengths = Lengths {
             key: size(given.key_len),
             password: size(given.password_len),
@@ -92,7 +95,7 @@ impl Subject for Safe {
             rows: size(given.r),
             columns: size(given.c),
         };
-        lyra2::cost(lengths, parameters)
+        lyra2::cost(lengths, parameters, size(rho))
             .map(counts)
             .map_err(refusal)
     }
@@ -136,7 +139,7 @@ fn is_wanted(case: &Case) -> bool {
         Question::DeriveRecorded { given, .. }
         | Question::Derive { given, .. }
         | Question::Check { given, .. } => given.matrix_words <= MANY_WORDS,
-        Question::Cost(_)
+        Question::Cost { .. }
         | Question::Walk { .. }
         | Question::LineRead { .. }
         | Question::LineWrite { .. } => true,
@@ -156,7 +159,7 @@ fn every_line_but_the_largest_matrices_and_the_walk_program() {
         assert_eq!(outcome, Ok(Coverage::Whole), "line {line}");
     }
     assert_eq!(all - lines.len(), 77 + 4);
-    assert!(lines.len() >= 3000);
+    assert!(lines.len() >= 4500);
 }
 
 /// The crate's documentation shows the first bytes of this key.
@@ -168,6 +171,7 @@ fn the_documented_key_is_the_second_programs() {
         t: 1,
         r: 64,
         c: 16,
+        settings: lyra2_reference::Settings::USUAL,
     };
     let mut key = [0; 32];
     lyra2_reference::derive(&inputs, &mut key, &mut [0; 12 * 64 * 16]).expect("no check refuses");

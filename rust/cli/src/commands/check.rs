@@ -12,6 +12,7 @@ use clap::Args;
 #[derive(Args)]
 #[command(after_help = help::paragraphs(&[
     "A key as long as the stored one is derived; yes is printed if they are the same, else no.",
+    help::SETTINGS,
     help::PASSWORD,
     help::YES_OR_NO_STATUS,
 ]))]

@@ -1,25 +1,28 @@
 //! `lyra2 cost`: what a derivation spends, and about how long it takes.
 
 use crate::failure::Failure;
-use crate::options::{decimal, CostOptions, KeyLengthOption};
+use crate::options::{decimal, CostOptions, KeyLengthOption, RoundsOption};
 use crate::outcome::Outcome;
 use crate::{estimate, help};
 use clap::Args;
-use lyra2::Lengths;
+use lyra2::{Lengths, Settings};
 
 /// Tell what a derivation spends in calls, memory and time
 #[derive(Args)]
 #[command(after_help = help::paragraphs(&[
     "The full calls, the reduced calls and the rounds of a derivation with these numbers are printed, the bytes of the \
-     matrix and of the visit record, and the expected seconds. No password is asked for.",
-    "The seconds are an estimate: a derivation over a matrix of at most 6 MiB is timed three times on the spot, and its \
-     median is scaled by the number of reduced calls. Setting memory aside comes on top, and a matrix beyond the \
-     processor's caches or a busy machine takes longer.",
+     matrix and of the visit record, and the expected seconds. No password is asked for, and no rotation, which costs \
+     nothing.",
+    "The seconds are an estimate: a derivation with the same rounds of a reduced call over a matrix of at most 6 MiB is \
+     timed three times on the spot, and its median is scaled by the number of reduced calls. Setting memory aside comes \
+     on top, and a matrix beyond the processor's caches or a busy machine takes longer.",
     help::STATUS,
 ]))]
 pub struct Cost {
     #[command(flatten)]
     costs: CostOptions,
+    #[command(flatten)]
+    rounds: RoundsOption,
     #[command(flatten)]
     key: KeyLengthOption,
     /// Bytes of the password, 0 to 1024
@@ -38,9 +41,14 @@ impl Cost {
             salt: self.salt_length,
         };
         let parameters = self.costs.parameters();
-        let counts = lyra2::cost(lengths, parameters)?;
+        let rounds = self.rounds.rounds;
+        let counts = lyra2::cost(lengths, parameters, rounds)?;
         let bytes = |words: Option<usize>| 8 * words.map_or(0, |words| words as u64);
-        let seconds = estimate::seconds(parameters, counts)?;
+        let settings = Settings {
+            rounds,
+            ..parameters.into()
+        };
+        let seconds = estimate::seconds(settings, counts)?;
         Ok(Outcome::result(format!(
             "full calls: {}\nreduced calls: {}\nrounds: {}\nmatrix bytes: {}\nrecord bytes: {}\n\
              expected seconds: {} (an estimate, from a derivation timed just now)\n",

@@ -13,6 +13,7 @@ use clap::Args;
 #[derive(Args)]
 #[command(after_help = help::paragraphs(&[
     "The key is printed as one line of hexadecimal digits in lower case.",
+    help::SETTINGS,
     help::PASSWORD,
     help::TYPED_TWICE,
     help::STATUS,
@@ -29,7 +30,7 @@ impl Derive {
         let input = self.input.read(Typed::Twice)?;
         input.ask_cost(self.key.key_length)?;
         let mut key = zeros(self.key.key_length);
-        let mut matrix = memory::matrix(input.parameters)?;
+        let mut matrix = memory::matrix(input.settings.parameters)?;
         input.derive(&mut key, &mut matrix)?;
         Ok(Outcome::secret(hex::line(&key)))
     }

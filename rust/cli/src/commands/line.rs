@@ -16,7 +16,7 @@ use std::path::PathBuf;
 #[derive(Args)]
 #[command(after_help = help::paragraphs(&[
     "The line is $lyra2$t=T,r=R,c=C$SALT$KEY and all that `lyra2 login` needs beside the password; docs/LOGIN-LINES.md \
-     describes it. Whoever has it has the key.",
+     describes it. It goes with the usual rounds and rotation of `lyra2 derive`. Whoever has it has the key.",
     "The salt is 16 bytes from the system's random source, or as many as --salt-length says, unless one is given.",
     help::LINE_EXAMPLE,
     "The file of --output is written beside FILE, readable for its owner alone, and takes its name once it is whole, as \
@@ -42,7 +42,7 @@ pub struct Line {
 impl Line {
     pub fn run(self) -> Result<Outcome, Failure> {
         let input = Input {
-            parameters: self.costs.parameters(),
+            settings: self.costs.parameters().into(),
             salt: self.salt.read()?,
             password: self.password.read(Typed::Twice)?,
         };
@@ -62,8 +62,9 @@ impl Line {
     /// The line and its newline.
     fn text(&self, input: &Input) -> Result<Secret, Failure> {
         let mut key = zeros(self.key.key_length);
-        let mut matrix = memory::matrix(input.parameters)?;
+        let parameters = input.settings.parameters;
+        let mut matrix = memory::matrix(parameters)?;
         input.derive(&mut key, &mut matrix)?;
-        Ok(line::write(input.parameters, &input.salt, &key)?)
+        Ok(line::write(parameters, &input.salt, &key)?)
     }
 }

@@ -42,7 +42,7 @@ impl Login {
         }
         let line = line::read(line_file)?;
         let input = Input {
-            parameters: line.parameters,
+            settings: line.parameters.into(),
             salt: line.salt,
             password: self.password.read(Typed::Once)?,
         };

@@ -68,7 +68,10 @@ fn argument_lines(argument: &Arg) -> String {
     let option = argument.get_long().map_or(String::new(), |long| {
         format!("\\fB{}\\fR ", escaped(&format!("--{long}")))
     });
-    let help = plain(argument.get_help());
+    let mut help = plain(argument.get_help());
+    for default in argument.get_default_values() {
+        help += &escaped(&format!(" [default: {}]", default.to_string_lossy()));
+    }
     format!(".TP\n{option}\\fI{value}\\fR\n{help}")
 }
 

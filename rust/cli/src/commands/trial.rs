@@ -18,6 +18,8 @@ use std::path::PathBuf;
     "The state after the last visit, the used matrix and the used record are written to FILE, and the file's length and \
      checksum are printed. With T = 0 there is no visit: the state is that after Setup, and the record is empty. `lyra2 \
      compare` compares two such files; docs/END-STATES.md describes them.",
+    "The file says T, R, C, the rounds of a reduced call and the rotation. Both sides of a trial agree on all five \
+     beforehand.",
     "Whoever has the file can make the key, and often compute the password: use a password that opens nothing.",
     "The file is written beside FILE, readable for its owner alone, and takes its name once it is whole: a file or a link \
      that is there is then replaced, and stays if anything goes wrong. A folder, a device or a pipe, or a link to one as \
@@ -52,16 +54,16 @@ impl Trial {
     /// Returns the file's length and checksum. It is a call of its own, whose part of the stack can be wiped.
     #[inline(never)]
     fn derive_and_write(&self, input: Input) -> Result<(u64, u64), Failure> {
-        let (parameters, key_length) = (input.parameters, self.key.key_length);
+        let (settings, key_length) = (input.settings, self.key.key_length);
         let mut key = zeros(key_length);
-        let mut matrix = memory::matrix(parameters)?;
-        let mut record = memory::record(parameters)?;
+        let mut matrix = memory::matrix(settings.parameters)?;
+        let mut record = memory::record(settings.parameters)?;
         let of_path = |error| Failure::of_file(&self.output, error);
         // Made before the work, which can take minutes, so that a wrong name is told at once.
         let mut output = Replacement::create(&self.output).map_err(of_path)?;
         let recorded = input.derive_recorded(&mut key, &mut matrix, &mut record)?;
         let header = Header {
-            parameters,
+            settings,
             key_length,
             counts: recorded.counts,
         };

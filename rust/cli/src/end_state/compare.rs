@@ -40,8 +40,8 @@ pub fn compare(first: &Path, second: &Path) -> Result<Comparison, Failure> {
     let (other, mut second) = Reader::open(second, &bar)?;
     let files = &mut [&mut first, &mut second];
     let state = first_difference(files, STATE_WORDS as u64)?;
-    let columns = header.parameters.columns as u64;
-    let [matrix, record] = if header.parameters == other.parameters {
+    let columns = header.settings.parameters.columns as u64;
+    let [matrix, record] = if header.settings.parameters == other.settings.parameters {
         let matrix = first_difference(files, header.matrix_words())?;
         let record = first_difference(files, header.record_words())?;
         [
@@ -95,7 +95,7 @@ fn skip(file: &mut Reader, header: &Header) -> Result<(), Failure> {
 }
 
 fn header_difference(header: &Header, other: &Header) -> Option<Difference> {
-    let pairs = (0..).zip(header.words().into_iter().zip(other.words()));
+    let pairs = (0..).zip(header.fields().into_iter().zip(other.fields()));
     let mut differing = pairs.filter(|(_, (x, y))| x != y);
     differing.next().map(|(place, (x, y))| Difference {
         place,

@@ -5,33 +5,64 @@ pub mod compare;
 pub mod read;
 pub mod write;
 
-use lyra2::{Counts, Parameters, COLUMNS, KEY_LENGTHS, ROWS, STATE_WORDS, TIME_COSTS};
+use lyra2::{
+    Counts, Parameters, Settings, COLUMNS, KEY_LENGTHS, ROTATIONS, ROUNDS, ROWS, STATE_WORDS,
+    TIME_COSTS, USUAL_ROTATION, USUAL_ROUNDS,
+};
 use std::ops::RangeInclusive;
 
 /// The first eight bytes.
 const MAGIC: u64 = u64::from_le_bytes(*b"LYRA2END");
-/// The version of the form that this program writes and reads.
-const VERSION: u64 = 1;
-/// Words before the state.
-const HEADER_WORDS: usize = 9;
-/// The names of the header's words.
-const FIELDS: [&str; HEADER_WORDS] = [
-    "magic",
-    "version",
+/// The names of the header's fields, which follow the first bytes and the version.
+const FIELDS: [&str; 10] = [
     "T",
     "R",
     "C",
+    "rho",
+    "omega",
+    "mixer",
     "key length",
     "full calls",
     "reduced calls",
     "rounds",
 ];
 
+/// The number of the plain mixer, the only one that there is.
+const PLAIN_MIXER: u64 = 0;
+/// The rho, omega and mixer of every file of version 1, which has no words for them.
+const OF_VERSION_1: [u64; 3] = [USUAL_ROUNDS as u64, USUAL_ROTATION as u64, PLAIN_MIXER];
+
+/// A form of the file.
+#[derive(Clone, Copy)]
+enum Version {
+    /// It is read and no longer written.
+    One = 1,
+    Two = 2,
+}
+
+impl Version {
+    fn of_number(number: u64) -> Result<Version, String> {
+        match number {
+            1 => Ok(Version::One),
+            2 => Ok(Version::Two),
+            _ => Err(format!("version {number}; versions 1 and 2 are read")),
+        }
+    }
+
+    /// Words before the state: the first bytes, the version and the fields.
+    fn header_words(self) -> usize {
+        match self {
+            Version::One => 2 + FIELDS.len() - OF_VERSION_1.len(),
+            Version::Two => 2 + FIELDS.len(),
+        }
+    }
+}
+
 /// What stands before the state.
 #[derive(Clone, Copy)]
 pub struct Header {
-    /// T, R and C.
-    pub parameters: Parameters,
+    /// T, R, C, rho and omega.
+    pub settings: Settings,
     /// Bytes of the key.
     pub key_length: usize,
     /// What the derivation spent. Another program's counts may be wrong, and are then a difference.
@@ -39,14 +70,20 @@ pub struct Header {
 }
 
 impl Header {
-    /// The header as words.
-    fn words(&self) -> [u64; HEADER_WORDS] {
+    /// The fields of any version, since files are compared by them.
+    fn fields(&self) -> [u64; FIELDS.len()] {
+        let Settings {
+            parameters,
+            rounds,
+            rotation,
+        } = self.settings;
         [
-            MAGIC,
-            VERSION,
-            self.parameters.time as u64,
-            self.parameters.rows as u64,
-            self.parameters.columns as u64,
+            parameters.time as u64,
+            parameters.rows as u64,
+            parameters.columns as u64,
+            rounds as u64,
+            rotation as u64,
+            PLAIN_MIXER,
             self.key_length as u64,
             self.counts.full,
             self.counts.reduced,
@@ -54,27 +91,31 @@ impl Header {
         ]
     }
 
-    /// The header that some words are, once its numbers are within their limits.
-    fn from_words(words: [u64; HEADER_WORDS]) -> Result<Header, String> {
-        let [magic, version, time, rows, columns, key_length, full, reduced, rounds] = words;
-        if magic != MAGIC {
-            return Err("not an end-state file: it does not start with LYRA2END".to_string());
-        }
-        if version != VERSION {
-            return Err(format!("version {version}; version {VERSION} is read"));
-        }
+    /// The header that some fields are, once their numbers are within the limits.
+    fn from_fields(fields: [u64; FIELDS.len()]) -> Result<Header, String> {
+        let [time, rows, columns, rho, omega, mixer, key_length, full, reduced, rounds] = fields;
         let parameters = Parameters {
             time: within("T", time, TIME_COSTS)?,
             rows: within("R", rows, ROWS)?,
             columns: within("C", columns, COLUMNS)?,
         };
+        let settings = Settings {
+            parameters,
+            rounds: within("rho", rho, ROUNDS)?,
+            rotation: within("omega", omega, ROTATIONS)?,
+        };
+        if mixer != PLAIN_MIXER {
+            return Err(format!(
+                "the mixer is {mixer} in its header; {PLAIN_MIXER}, the plain one, is due"
+            ));
+        }
         let counts = Counts {
             full,
             reduced,
             rounds,
         };
         Ok(Header {
-            parameters,
+            settings,
             key_length: within("the key length", key_length, KEY_LENGTHS)?,
             counts,
         })
@@ -82,17 +123,28 @@ impl Header {
 
     /// Words of the used matrix. T, R and C are within their limits, so there is room for the number.
     fn matrix_words(&self) -> u64 {
-        self.parameters.matrix_words().unwrap_or(usize::MAX) as u64
+        self.settings
+            .parameters
+            .matrix_words()
+            .unwrap_or(usize::MAX) as u64
     }
 
     /// Words of the used record.
     fn record_words(&self) -> u64 {
-        self.parameters.record_words().unwrap_or(usize::MAX) as u64
+        self.settings
+            .parameters
+            .record_words()
+            .unwrap_or(usize::MAX) as u64
     }
 
-    /// Bytes of the whole file: header, state, matrix, record and checksum.
+    /// Bytes of the whole file that is written for it.
     pub fn file_bytes(&self) -> u64 {
-        let fixed = (HEADER_WORDS + STATE_WORDS + 1) as u64;
+        self.bytes_of(Version::Two)
+    }
+
+    /// Bytes of a whole file of this version: header, state, matrix, record and checksum.
+    fn bytes_of(&self, version: Version) -> u64 {
+        let fixed = (version.header_words() + STATE_WORDS + 1) as u64;
         8 * (fixed + self.matrix_words() + self.record_words())
     }
 }

@@ -1,7 +1,7 @@
 //! Reading an end-state file, a word at a time, so that no size in it asks for memory.
 
 use super::checksum::Checksum;
-use super::{Header, HEADER_WORDS};
+use super::{Header, Version, MAGIC, OF_VERSION_1};
 use crate::failure::Failure;
 use indicatif::{ProgressBar, ProgressBarIter};
 use std::fs::File;
@@ -13,6 +13,7 @@ pub struct Reader {
     path: PathBuf,
     file: BufReader<ProgressBarIter<File>>,
     sum: Checksum,
+    version: Option<Version>,
     header: Option<Header>,
 }
 
@@ -24,15 +25,40 @@ impl Reader {
             path: path.to_path_buf(),
             file: BufReader::new(bar.wrap_read(file)),
             sum: Checksum::new(),
+            version: None,
             header: None,
         };
-        let mut words = [0; HEADER_WORDS];
-        for word in &mut words {
-            *word = reader.word()?;
-        }
-        let header = Header::from_words(words).map_err(|what| reader.failure(what))?;
+        let header = reader.header()?;
         reader.header = Some(header);
         Ok((header, reader))
+    }
+
+    fn header(&mut self) -> Result<Header, Failure> {
+        let [magic, version] = self.words()?;
+        if magic != MAGIC {
+            let words = "not an end-state file: it does not start with LYRA2END";
+            return Err(self.failure(words));
+        }
+        let version = Version::of_number(version).map_err(|what| self.failure(what))?;
+        self.version = Some(version);
+        let [time, rows, columns] = self.words()?;
+        let [rho, omega, mixer] = match version {
+            Version::One => OF_VERSION_1,
+            Version::Two => self.words()?,
+        };
+        let [key_length, full, reduced, rounds] = self.words()?;
+        let fields = [
+            time, rows, columns, rho, omega, mixer, key_length, full, reduced, rounds,
+        ];
+        Header::from_fields(fields).map_err(|what| self.failure(what))
+    }
+
+    fn words<const COUNT: usize>(&mut self) -> Result<[u64; COUNT], Failure> {
+        let mut words = [0; COUNT];
+        for word in &mut words {
+            *word = self.word()?;
+        }
+        Ok(words)
     }
 
     /// The next word.
@@ -69,9 +95,13 @@ impl Reader {
     }
 
     fn due_length(&self) -> String {
-        match self.header {
-            Some(header) => format!("the {} bytes that its header asks for", header.file_bytes()),
-            None => format!("the header of {} bytes", 8 * HEADER_WORDS),
+        match (self.version, self.header) {
+            (Some(version), Some(header)) => {
+                let bytes = header.bytes_of(version);
+                format!("the {bytes} bytes that its header asks for")
+            }
+            (Some(version), None) => format!("the header of {} bytes", 8 * version.header_words()),
+            (None, _) => "the header of an end-state file".to_string(),
         }
     }
 

@@ -1,7 +1,7 @@
 //! Writing an end-state file.
 
 use super::checksum::Checksum;
-use super::Header;
+use super::{Header, Version, MAGIC};
 use std::io::{self, BufWriter, Write};
 
 /// Writes the file and returns its checksum.
@@ -14,7 +14,8 @@ pub fn write(
 ) -> io::Result<u64> {
     let mut file = BufWriter::new(file);
     let mut sum = Checksum::new();
-    for part in [&header.words(), state, matrix, record] {
+    let start = [MAGIC, Version::Two as u64];
+    for part in [&start, &header.fields()[..], state, matrix, record] {
         for word in part {
             let bytes = word.to_le_bytes();
             sum.add(bytes);

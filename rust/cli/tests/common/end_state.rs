@@ -8,6 +8,9 @@ pub struct EndState {
     pub t: u64,
     pub r: u64,
     pub c: u64,
+    pub rho: u64,
+    pub omega: u64,
+    pub mixer: u64,
     pub key_length: u64,
     /// Full calls, reduced calls, rounds.
     pub counts: [u64; 3],
@@ -17,7 +20,7 @@ pub struct EndState {
 }
 
 impl EndState {
-    /// The parts of a file that has to be in order.
+    /// The parts of a file of version 2 that has to be in order.
     pub fn read(file: &[u8]) -> EndState {
         let (body, sum) = file.split_at(file.len() - 8);
         assert_eq!(&body[..8], b"LYRA2END");
@@ -30,14 +33,17 @@ impl EndState {
             assert_eq!(part.len() as u64, count, "the file is too short");
             part
         };
-        let header = take(8);
-        let [1, t, r, c, key_length, full, reduced, rounds] = header[..] else {
-            panic!("version 1 is due: {header:?}");
+        let header = take(11);
+        let [2, t, r, c, rho, omega, mixer, key_length, full, reduced, rounds] = header[..] else {
+            panic!("version 2 is due: {header:?}");
         };
         let end_state = EndState {
             t,
             r,
             c,
+            rho,
+            omega,
+            mixer,
             key_length,
             counts: [full, reduced, rounds],
             state: take(16),
@@ -48,21 +54,40 @@ impl EndState {
         end_state
     }
 
-    /// The file, with a checksum that fits.
+    /// The file of version 2, with a checksum that fits.
     pub fn write(&self) -> Vec<u8> {
         let EndState { t, r, c, .. } = *self;
-        let header = [1, t, r, c, self.key_length];
+        let EndState {
+            rho, omega, mixer, ..
+        } = *self;
+        self.write_behind(&[2, t, r, c, rho, omega, mixer])
+    }
+
+    /// The file of version 1, which has no place for rho, omega and mixer.
+    pub fn write_version_1(&self) -> Vec<u8> {
+        let EndState { t, r, c, .. } = *self;
+        assert_eq!((self.rho, self.omega, self.mixer), (1, 2, 0));
+        self.write_behind(&[1, t, r, c])
+    }
+
+    /// The file whose header has these words before the key length.
+    fn write_behind(&self, words: &[u64]) -> Vec<u8> {
         let parts = [
-            &header,
-            &self.counts[..],
+            words,
+            &[self.key_length],
+            &self.counts,
             &self.state,
             &self.matrix,
             &self.record,
         ];
         let words = parts.concat().into_iter().flat_map(u64::to_le_bytes);
-        let mut file: Vec<u8> = b"LYRA2END".iter().copied().chain(words).collect();
-        let sum = checksum::of_bytes(file.iter().copied());
-        file.extend(sum.to_le_bytes());
-        file
+        summed(b"LYRA2END".iter().copied().chain(words).collect())
     }
+}
+
+/// The bytes and their checksum.
+pub fn summed(mut bytes: Vec<u8>) -> Vec<u8> {
+    let sum = checksum::of_bytes(bytes.iter().copied());
+    bytes.extend(sum.to_le_bytes());
+    bytes
 }

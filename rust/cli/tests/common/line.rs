@@ -1,6 +1,6 @@
 //! Login lines by the second program's base 64 and keys.
 
-use lyra2_reference::{base64, derive, Inputs};
+use lyra2_reference::{base64, derive, Inputs, Settings};
 
 /// What a line says.
 #[derive(Clone, Debug, PartialEq, Eq)]
@@ -26,6 +26,7 @@ impl Line {
             t,
             r,
             c,
+            settings: Settings::USUAL,
         };
         let mut key = vec![0; key_length];
         let mut matrix = vec![0; (12 * r * c) as usize];

@@ -1,0 +1,86 @@
+//! Every pair of rounds and rotation through the static library, against the second program.
+//!
+//! A recorded derivation is compared in its key, state, matrix, record and counts; the plain derivation, the check of
+//! the key and of another key, and the cost question are then asked about the same inputs.
+
+use derivation_link::Proved;
+use lyra2_reference::refusal::{ROTATIONS, ROUNDS};
+use lyra2_reference::vectors::random::Random;
+use lyra2_reference::vectors::{run, Answer, Bytes, Case, Coverage, Given, Question, Reference};
+use lyra2_reference::Settings;
+use std::collections::BTreeSet;
+
+/// T, R and C: the smallest matrix, some that reach several windows of the Setup walk, and Setup alone.
+const SHAPES: [(u64, u64, u64); 6] = [
+    (1, 3, 1),
+    (1, 4, 2),
+    (2, 9, 3),
+    (1, 35, 5),
+    (0, 3, 2),
+    (0, 18, 4),
+];
+
+/// A recorded derivation from random bytes, with words to spare in both buffers.
+fn question(random: &mut Random, (t, r, c): (u64, u64, u64), settings: Settings) -> Question {
+    let (password_len, salt_len) = (random.between(0, 150), random.between(8, 64));
+    let mut given = Given {
+        password: Bytes::Listed(random.bytes(password_len)),
+        salt: Bytes::Listed(random.bytes(salt_len)),
+        t,
+        r,
+        c,
+        settings: Some(settings),
+        matrix_words: 0,
+    };
+    let key_len = random.between(16, 200);
+    let sizes = given.parameters(key_len);
+    given.matrix_words = sizes.matrix_words() + random.between(0, 3);
+    Question::DeriveRecorded {
+        given,
+        key_len,
+        record_words: sizes.record_words() + random.between(0, 3),
+        in_full: true,
+    }
+}
+
+fn assert_agree(question: Question) -> Answer {
+    let answer = run::ask(&Reference, &question).expect("the second program keeps its buffers");
+    assert!(matches!(answer, Answer::Recorded { .. }), "{question:?}");
+    let case = Case {
+        number: 1,
+        question,
+        answer,
+    };
+    let outcome = run::check_case(&Proved, &case);
+    assert_eq!(outcome, Ok(Coverage::Whole), "{:?}", case.question);
+    case.answer
+}
+
+#[test]
+fn every_pair_with_several_shapes() {
+    let mut random = Random::new(106);
+    for rho in ROUNDS {
+        for omega in ROTATIONS {
+            for shape in SHAPES {
+                assert_agree(question(&mut random, shape, Settings { rho, omega }));
+            }
+        }
+    }
+}
+
+/// One input has another key with each pair, so that none of them can stand for another.
+#[test]
+fn every_pair_has_a_key_of_its_own() {
+    let mut keys = BTreeSet::new();
+    for rho in ROUNDS {
+        for omega in ROTATIONS {
+            let settings = Settings { rho, omega };
+            let question = question(&mut Random::new(106), (1, 5, 3), settings);
+            let Answer::Recorded { key, .. } = assert_agree(question) else {
+                continue;
+            };
+            keys.insert(key);
+        }
+    }
+    assert_eq!(keys.len(), 12 * 11);
+}
