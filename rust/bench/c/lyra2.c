@@ -1,6 +1,7 @@
 /*
- * The plain derivation in C with intrinsics, to set the proved one beside. It is compiled once for each set of
- * instructions: sse2.h or avx2.h has the registers and the round, and everything else stands here once.
+ * The plain derivation in C with intrinsics, to set the proved one beside, with the usual settings: a reduced call has one
+ * round and the rotation goes by two words. It is compiled once for each set of instructions: sse2.h or avx2.h has the
+ * registers and the round, and everything else stands here once.
  *
  * The caller answers for what the checks would refuse, and lends a matrix of 12 * R * C words, which end as zeros; the
  * proved derivation pays for that too.

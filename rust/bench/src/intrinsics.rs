@@ -1,7 +1,7 @@
-//! The plain derivation in C with intrinsics, of c/lyra2.c.
+//! The plain derivation in C with intrinsics, of c/lyra2.c. It has the usual rounds and rotation alone.
 
 use lyra2_reference::refusal::check_matrix;
-use lyra2_reference::Inputs;
+use lyra2_reference::{Inputs, Settings};
 
 /// Derivation of c/lyra2.c: what is asked, and the lent buffers.
 #[repr(C)]
@@ -23,12 +23,12 @@ extern "C" {
     fn bench_derive_avx2(asked: *const Derivation);
 }
 
-/// The derivation with SSE2, for inputs and buffers that no check refuses.
+/// The derivation with SSE2, for inputs and buffers that no check refuses, with the usual settings.
 pub fn derive_sse2(inputs: &Inputs, key: &mut [u8], matrix: &mut [u64]) {
     derive(bench_derive_sse2, inputs, key, matrix);
 }
 
-/// The derivation with AVX2, for inputs and buffers that no check refuses.
+/// The derivation with AVX2, for inputs and buffers that no check refuses, with the usual settings.
 pub fn derive_avx2(inputs: &Inputs, key: &mut [u8], matrix: &mut [u64]) {
     assert!(has_avx2(), "this processor has no AVX2");
     derive(bench_derive_avx2, inputs, key, matrix);
@@ -45,7 +45,9 @@ fn derive(
     key: &mut [u8],
     matrix: &mut [u64],
 ) {
-    check_matrix(&inputs.parameters(key.len()), matrix).expect("no check refuses");
+    let usual = inputs.settings == Settings::USUAL;
+    assert!(usual, "the C programs have the usual settings alone");
+    check_matrix(&inputs.parameters(key.len()), inputs.settings, matrix).expect("no check refuses");
     let asked = Derivation {
         key: key.as_mut_ptr(),
         key_len: key.len(),

@@ -3,7 +3,7 @@
 #![forbid(unsafe_code)]
 
 use bench::lent::Lent;
-use bench::{machine, pages, plot, programs, sizes, table};
+use bench::{machine, pages, plot, programs, settings, sizes, table};
 use lyra2_reference::refusal::check_parameters;
 use std::process::ExitCode;
 
@@ -11,6 +11,7 @@ const USAGE: &str = "\
 usage: bench [table] [--quick]         the tables, in Markdown
        bench table R C .. [--quick]    the same for these numbers of rows and columns
        bench pages [--quick]           large pages beside ordinary ones, in Markdown
+       bench settings [--quick]        other rounds and rotations than the usual ones, in Markdown
        bench plot FILE [--quick]       time against memory, as an SVG picture
        bench once PROGRAM R C          one derivation, for a tool that counts instructions
 --quick makes one pass over the measurements instead of four.";
@@ -24,6 +25,7 @@ fn main() -> ExitCode {
         [] | ["table"] => print_tables(&table::SHAPES, quick),
         ["table", ref numbers @ ..] => shapes(numbers).and_then(|s| print_tables(&s, quick)),
         ["pages"] => print_pages(quick),
+        ["settings"] => print_settings(quick),
         ["plot", file] => draw(file, quick),
         ["once", program, r, c] => once(program, r, c),
         _ => Err(USAGE.to_string()),
@@ -74,6 +76,12 @@ fn print_pages(quick: bool) -> Result<(), String> {
     for line in missing {
         println!("\n{line}");
     }
+    Ok(())
+}
+
+fn print_settings(quick: bool) -> Result<(), String> {
+    println!("{}", machine::description());
+    settings::print(&programs::all().0, quick);
     Ok(())
 }
 

@@ -3,6 +3,7 @@
 //! State and matrix are shared words (`Cell`), since two rows of a visit may be one. It is also faster: a compiler
 //! that knows state and matrix to be apart sums in vector registers and then has to take the sums to pieces for the
 //! round. The output is copied before it is written, so that the XORs into the matrix are done in vector registers.
+//! The rotation is a constant of the walk, of which there is one for each, and so is whether a reduced call has one round.
 
 use lyra2_reference::sponge::{State, BLOCK_WORDS, CELL_WORDS, FULL_ROUNDS, STARTING_WORDS};
 use lyra2_reference::Inputs;
@@ -16,6 +17,36 @@ type Cell = [Word<u64>; CELL_WORDS];
 /// The plain derivation, for inputs and a matrix that no check refuses. The used matrix ends as zeros; the proved
 /// derivation pays for that too.
 pub fn derive(inputs: &Inputs, key: &mut [u8], matrix: &mut [u64]) {
+    let derive = match inputs.settings.omega {
+        1 => derive_rotating::<1>,
+        2 => derive_rotating::<2>,
+        3 => derive_rotating::<3>,
+        4 => derive_rotating::<4>,
+        5 => derive_rotating::<5>,
+        6 => derive_rotating::<6>,
+        7 => derive_rotating::<7>,
+        8 => derive_rotating::<8>,
+        9 => derive_rotating::<9>,
+        10 => derive_rotating::<10>,
+        11 => derive_rotating::<11>,
+        omega => panic!("no rotation goes by {omega} words"),
+    };
+    derive(inputs, key, matrix);
+}
+
+fn derive_rotating<const OMEGA: usize>(inputs: &Inputs, key: &mut [u8], matrix: &mut [u64]) {
+    match inputs.settings.rho {
+        1 => run::<OMEGA>(inputs, key, matrix, round),
+        rho => run::<OMEGA>(inputs, key, matrix, |s| rounds(s, rho)),
+    }
+}
+
+fn run<const OMEGA: usize>(
+    inputs: &Inputs,
+    key: &mut [u8],
+    matrix: &mut [u64],
+    reduced_call: impl Fn(&Shared) + Copy,
+) {
     let mut start = [0; 16];
     start[8..].copy_from_slice(&STARTING_WORDS);
     let s = &start.map(Word::new);
@@ -23,10 +54,10 @@ pub fn derive(inputs: &Inputs, key: &mut [u8], matrix: &mut [u64]) {
     let (rows, columns) = (inputs.r as usize, inputs.c as usize);
     let words = Word::from_mut(matrix).as_slice_of_cells();
     let cells = &words.as_chunks().0[..rows * columns];
-    let mut last = setup(s, cells, columns);
+    let mut last = setup::<OMEGA>(s, cells, columns, reduced_call);
     for _ in 0..rows * inputs.t as usize {
-        let picked = [&s[0], &s[2]].map(|word| (word.get() % inputs.r) as usize);
-        visit(s, cells, columns, picked, last);
+        let picked = [&s[0], &s[OMEGA]].map(|word| (word.get() % inputs.r) as usize);
+        visit::<OMEGA>(s, cells, columns, picked, last, reduced_call);
         last = picked;
     }
     absorb(s, cells[last[0] * columns].iter().map(Word::get));
@@ -46,25 +77,38 @@ fn g(s: &mut State, i: usize, j: usize, k: usize, l: usize) {
     s[j] = (s[j] ^ s[k]).rotate_right(63);
 }
 
+#[inline(always)]
+fn mix(s: &mut State) {
+    g(s, 0, 4, 8, 12);
+    g(s, 1, 5, 9, 13);
+    g(s, 2, 6, 10, 14);
+    g(s, 3, 7, 11, 15);
+    g(s, 0, 5, 10, 15);
+    g(s, 1, 6, 11, 12);
+    g(s, 2, 7, 8, 13);
+    g(s, 3, 4, 9, 14);
+}
+
 /// Not inlined, so that the round has all registers to itself.
 #[inline(never)]
 fn round(shared: &Shared) {
     let mut s = shared.each_ref().map(Word::get);
-    g(&mut s, 0, 4, 8, 12);
-    g(&mut s, 1, 5, 9, 13);
-    g(&mut s, 2, 6, 10, 14);
-    g(&mut s, 3, 7, 11, 15);
-    g(&mut s, 0, 5, 10, 15);
-    g(&mut s, 1, 6, 11, 12);
-    g(&mut s, 2, 7, 8, 13);
-    g(&mut s, 3, 4, 9, 14);
+    mix(&mut s);
+    put(shared, s);
+}
+
+/// Several rounds, between which the state is not put back.
+#[inline(never)]
+fn rounds(shared: &Shared, count: u64) {
+    let mut s = shared.each_ref().map(Word::get);
+    for _ in 0..count {
+        mix(&mut s);
+    }
     put(shared, s);
 }
 
 fn full_call(s: &Shared) {
-    for _ in 0..FULL_ROUNDS {
-        round(s);
-    }
+    rounds(s, FULL_ROUNDS);
 }
 
 #[inline(always)]
@@ -106,18 +150,24 @@ fn absorb_input(s: &Shared, inputs: &Inputs, key_len: usize) {
 }
 
 /// Fills the matrix; returns the row filled last and the row revisited last.
-fn setup(s: &Shared, cells: &[Cell], columns: usize) -> [usize; 2] {
+fn setup<const OMEGA: usize>(
+    s: &Shared,
+    cells: &[Cell],
+    columns: usize,
+    reduced_call: impl Fn(&Shared) + Copy,
+) -> [usize; 2] {
     let rows: Vec<&[Cell]> = cells.chunks_exact(columns).collect();
     for cell in rows[0].iter().rev() {
         put(cell, output(s));
-        round(s);
+        reduced_call(s);
     }
-    fill_from(s, rows[0], rows[1]);
-    fill_from(s, rows[1], rows[2]);
+    fill_from(s, rows[0], rows[1], reduced_call);
+    fill_from(s, rows[1], rows[2], reduced_call);
     let (mut gap, mut step, mut window, mut root) = (1isize, 1, 2, 2usize);
     let (mut row1, mut prev1) = (1, 0);
     for row0 in 3..rows.len() {
-        fill_and_revisit(s, rows[row0], rows[row1], [rows[row0 - 1], rows[prev1]]);
+        let previous = [rows[row0 - 1], rows[prev1]];
+        fill_and_revisit::<OMEGA>(s, rows[row0], rows[row1], previous, reduced_call);
         prev1 = row1;
         row1 = (row1 + step) % window;
         if row1 == 0 {
@@ -130,51 +180,64 @@ fn setup(s: &Shared, cells: &[Cell], columns: usize) -> [usize; 2] {
     [rows.len() - 1, prev1]
 }
 
-fn fill_from(s: &Shared, previous: &[Cell], row: &[Cell]) {
+fn fill_from(s: &Shared, previous: &[Cell], row: &[Cell], reduced_call: impl Fn(&Shared)) {
     for (cell, written) in previous.iter().zip(row.iter().rev()) {
         for j in 0..CELL_WORDS {
             xor(&s[j], cell[j].get());
         }
-        round(s);
+        reduced_call(s);
         put(written, std::array::from_fn(|j| cell[j].get() ^ s[j].get()));
     }
 }
 
 #[inline(never)]
-fn fill_and_revisit(s: &Shared, row: &[Cell], revisited: &[Cell], previous: [&[Cell]; 2]) {
+fn fill_and_revisit<const OMEGA: usize>(
+    s: &Shared,
+    row: &[Cell],
+    revisited: &[Cell],
+    previous: [&[Cell]; 2],
+    reduced_call: impl Fn(&Shared),
+) {
     let read = revisited.iter().zip(previous[0]).zip(previous[1]);
     for (((x, p), q), written) in read.zip(row.iter().rev()) {
         for j in 0..CELL_WORDS {
             let sum = x[j].get().wrapping_add(p[j].get());
             xor(&s[j], sum.wrapping_add(q[j].get()));
         }
-        round(s);
+        reduced_call(s);
         let rand = output(s);
         put(written, std::array::from_fn(|j| p[j].get() ^ rand[j]));
         for j in 0..CELL_WORDS {
-            xor(&x[j], rand[(j + 2) % CELL_WORDS]);
+            xor(&x[j], rand[(j + OMEGA) % CELL_WORDS]);
         }
     }
 }
 
 #[inline(never)]
-fn visit(s: &Shared, cells: &[Cell], columns: usize, rows: [usize; 2], previous: [usize; 2]) {
+fn visit<const OMEGA: usize>(
+    s: &Shared,
+    cells: &[Cell],
+    columns: usize,
+    rows: [usize; 2],
+    previous: [usize; 2],
+    reduced_call: impl Fn(&Shared),
+) {
     let [xs, ys] = rows.map(|row| &cells[row * columns..][..columns]);
     let [ps, qs] = previous.map(|row| &cells[row * columns..][..columns]);
     for (x, y) in xs.iter().zip(ys) {
-        let p = &ps[remainder(s[4].get(), columns)];
-        let q = &qs[remainder(s[6].get(), columns)];
+        let p = &ps[remainder(s[2 * OMEGA % CELL_WORDS].get(), columns)];
+        let q = &qs[remainder(s[3 * OMEGA % CELL_WORDS].get(), columns)];
         for j in 0..CELL_WORDS {
             let sum = x[j].get().wrapping_add(y[j].get());
             xor(&s[j], sum.wrapping_add(p[j].get()).wrapping_add(q[j].get()));
         }
-        round(s);
+        reduced_call(s);
         let rand = output(s);
         for j in 0..CELL_WORDS {
             xor(&x[j], rand[j]);
         }
         for j in 0..CELL_WORDS {
-            xor(&y[j], rand[(j + 2) % CELL_WORDS]);
+            xor(&y[j], rand[(j + OMEGA) % CELL_WORDS]);
         }
     }
 }

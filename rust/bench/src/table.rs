@@ -2,7 +2,7 @@
 
 use crate::measure::{add_pass, measure, passes, Times};
 use crate::programs::{Program, C_SSE2, RUST_FOR_SPEED};
-use lyra2_reference::Inputs;
+use lyra2_reference::{Inputs, Settings};
 
 /// The R and C of the page's tables: 6 MiB twice, then 96 MiB twice.
 pub const SHAPES: [(u64, u64); 4] = [(1024, 64), (256, 256), (16_384, 64), (4096, 256)];
@@ -41,6 +41,7 @@ pub fn inputs(r: u64, c: u64) -> Inputs<'static> {
         t: 1,
         r,
         c,
+        settings: Settings::USUAL,
     }
 }
 

@@ -4,18 +4,20 @@ use bench::lent::{Lent, Pages};
 use bench::measure::{measure, measure_in};
 use bench::pages::measure_once;
 use bench::programs::{self, Program};
+use bench::settings::{self, SETTINGS};
 use bench::table::inputs;
 use bench::{intrinsics, speed};
-use lyra2_reference::{derive_recorded, Inputs};
+use lyra2_reference::{derive_recorded, Inputs, Settings};
 
 type Derive = fn(&Inputs, &mut [u8], &mut [u64]);
 
-/// The programs of this package; AVX2 is left out where the processor has none.
-fn derivations() -> Vec<(&'static str, Derive)> {
-    let mut all: Vec<(&str, Derive)> = vec![
-        ("Rust for speed", speed::derive),
-        ("C, SSE2", intrinsics::derive_sse2),
-    ];
+/// The programs of this package that have these settings; AVX2 is left out where the processor has none.
+fn derivations(settings: Settings) -> Vec<(&'static str, Derive)> {
+    let mut all: Vec<(&str, Derive)> = vec![("Rust for speed", speed::derive)];
+    if settings != Settings::USUAL {
+        return all;
+    }
+    all.push(("C, SSE2", intrinsics::derive_sse2));
     if intrinsics::has_avx2() {
         all.push(("C, AVX2", intrinsics::derive_avx2));
     }
@@ -35,7 +37,7 @@ fn compare(inputs: &Inputs, key_len: usize) -> usize {
     let mut record = vec![0; given.record_words() as usize];
     derive_recorded(inputs, &mut due_key, &mut vec![0; used], &mut record)
         .expect("no check refuses");
-    for (name, derive) in derivations() {
+    for (name, derive) in derivations(inputs.settings) {
         let mut key = vec![0xa5; key_len];
         let mut matrix: Vec<u64> = (0..used as u64).map(|place| !place).collect();
         matrix.resize(used + PAST, 7);
@@ -70,6 +72,7 @@ fn every_shape() {
                         t,
                         r,
                         c,
+                        settings: Settings::USUAL,
                     },
                     32,
                 );
@@ -91,6 +94,7 @@ fn every_number_of_columns() {
                 t: 1,
                 r: 7,
                 c,
+                settings: Settings::USUAL,
             },
             32,
         );
@@ -108,6 +112,7 @@ fn lengths_around_blocks_and_pieces() {
                 t: 1,
                 r: 4,
                 c: 3,
+                settings: Settings::USUAL,
             };
             compare(&inputs, 64);
         }
@@ -120,9 +125,35 @@ fn lengths_around_blocks_and_pieces() {
             t: 2,
             r: 5,
             c: 4,
+            settings: Settings::USUAL,
         };
         compare(&inputs, key_len);
     }
+}
+
+#[test]
+fn every_choice_of_rounds_and_rotation() {
+    let (password, salt) = (bytes(19), bytes(16));
+    for (rho, omega) in (1..=12).flat_map(|rho| (1..=11).map(move |omega| (rho, omega))) {
+        for (t, r, c) in [(0, 9, 4), (1, 3, 1), (1, 20, 9), (2, 7, 16)] {
+            let inputs = Inputs {
+                password: &password,
+                salt: &salt,
+                t,
+                r,
+                c,
+                settings: Settings { rho, omega },
+            };
+            compare(&inputs, 100);
+        }
+    }
+}
+
+#[test]
+#[should_panic(expected = "the C programs have the usual settings alone")]
+fn a_c_program_is_not_asked_for_other_settings() {
+    let settings = Settings { rho: 1, omega: 1 };
+    intrinsics::derive_sse2(&Inputs { settings, ..SMALL }, &mut [0; 32], &mut [0; 36]);
 }
 
 /// As much memory as Argon2id needs at least, and a little more.
@@ -132,6 +163,7 @@ const SMALL: Inputs = Inputs {
     t: 1,
     r: 32,
     c: 4,
+    settings: Settings::USUAL,
 };
 
 #[test]
@@ -154,6 +186,20 @@ fn programs_are_measured_on_both_kinds_of_pages() {
     // Both have been derived in: neither keeps what it started with.
     for lent in &mut buffers {
         assert!(lent.key != [1; 32] && lent.matrix()[0] != 1);
+    }
+}
+
+#[test]
+fn all_settings_are_measured() {
+    let (all, _) = programs::all();
+    let named = |name| all.iter().find(|program| program.name == name);
+    let both =
+        [programs::PLAIN, programs::RUST_FOR_SPEED].map(|name| named(name).expect("a program"));
+    let given = SETTINGS.map(|settings| settings::with(settings, (32, 4)));
+    let times = settings::measure_all(&given, both, 3, 2);
+    assert_eq!(times.len(), SETTINGS.len());
+    for times in times.iter().flatten() {
+        assert_eq!(times.count(), 6);
     }
 }
 
