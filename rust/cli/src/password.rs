@@ -3,7 +3,7 @@
 use crate::failure::Failure;
 use crate::reading::{leave_out_newline, read_file, read_standard_input};
 use crate::secret::Secret;
-use crate::terminal;
+use crate::terminal::Hidden;
 use lyra2::PASSWORD_LENGTHS;
 use std::io::{self, ErrorKind, IsTerminal};
 use std::path::Path;
@@ -33,18 +33,18 @@ pub fn read(file: Option<&Path>, typed: Typed) -> Result<Secret, Failure> {
     Ok(password)
 }
 
+/// Nothing that is typed is shown from before the first prompt to after the last.
 fn type_in(typed: Typed) -> Result<Secret, Failure> {
-    terminal::restore_if_interrupted()?;
-    let password = ask("Password: ")?;
-    if typed == Typed::Twice && *ask("The same again: ")? != *password {
+    let mut terminal = Hidden::new()?;
+    let password = ask(&mut terminal, "Password: ")?;
+    if typed == Typed::Twice && *ask(&mut terminal, "The same again: ")? != *password {
         return Err(Failure::usage("two different passwords were typed"));
     }
     Ok(password)
 }
 
-/// A line typed at the terminal, which does not show it.
-fn ask(prompt: &str) -> Result<Secret, Failure> {
-    let line = rpassword::prompt_password(prompt).map_err(|error| match error.kind() {
+fn ask(terminal: &mut Hidden, prompt: &str) -> Result<Secret, Failure> {
+    let line = terminal.ask(prompt).map_err(|error| match error.kind() {
         ErrorKind::InvalidData => Failure::usage(
             "what was typed is not UTF-8; other bytes are taken from standard input or --password-file",
         ),

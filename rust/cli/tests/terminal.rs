@@ -4,7 +4,7 @@ mod common;
 
 use common::terminal::Terminal;
 use common::{hex, lyra2, words, TemporaryFile};
-use std::process::Stdio;
+use std::process::{Command, Stdio};
 
 const DERIVE: &str = "derive --salt 0011223344556677 --time 1 --rows 4 --columns 2 --key-length 32";
 /// Half a minute of work, of which the beginning is looked at.
@@ -63,6 +63,39 @@ fn the_terminal_shows_again_what_is_typed() {
     assert!(status.success(), "{shown}");
     assert!(shown.contains("before") && shown.contains("after"));
     assert!(!shown.contains("secret"), "{shown}");
+}
+
+/// Output is stopped, as by control-S, so that the prompt can't appear: whoever waits for it types nothing that is seen.
+#[test]
+fn what_is_typed_is_hidden_before_the_prompt_is_shown() {
+    let mut terminal = start(&format!("tty; read next; lyra2 {DERIVE}"));
+    terminal.wait_for("\r\n");
+    let device = terminal.shown().trim_end().to_string();
+    let settings = || {
+        let stty = Command::new("stty").args(["-a", "-F", &device]).output();
+        String::from_utf8(stty.expect("stty, of coreutils").stdout).expect("names of settings")
+    };
+    assert!(settings().contains(" echo "), "{}", settings());
+    terminal.type_in(b"\x13next\n");
+    terminal.wait_until("hidden", || settings().contains(" -echo "));
+    terminal.type_in(b"\x11");
+    terminal.wait_for(FIRST);
+    terminal.type_in(b"secret\n");
+    terminal.wait_for(SECOND);
+    terminal.type_in(b"secret\n");
+    let (status, shown) = terminal.end();
+    assert!(status.success(), "{shown}");
+    assert!(!shown.contains("secret"), "{shown}");
+}
+
+/// What is typed ahead of the second prompt counts, and is hidden too.
+#[test]
+fn both_passwords_may_be_typed_at_once() {
+    let both: [(&str, &[u8]); 1] = [(FIRST, b"secret\nsecret\n")];
+    let found = typed(&format!("lyra2 {DERIVE}"), &both);
+    let ends = found.1.matches('\n').count();
+    assert_eq!((found.0, ends), (Some(0), 3), "{}", found.1);
+    assert!(!found.1.contains("secret"), "{}", found.1);
 }
 
 /// The shell goes on after an interrupt here, as one at a console does, and not all shells put a terminal right.
@@ -202,7 +235,11 @@ fn nothing_is_typed_for_a_command_that_is_asked_wrongly() {
 fn long_work_shows_how_far_it_is() {
     let terminal = start(&format!("printf pass | lyra2 {LONG}"));
     terminal.wait_for("deriving [");
-    terminal.wait_for("00:00:01 of about 00:");
+    // Which seconds are shown is up to how busy the machine is.
+    let passed = |second| format!("00:00:{second:02} of about 00:");
+    terminal.wait_until("a second later", || {
+        (1..60).any(|second| terminal.shown().contains(&passed(second)))
+    });
 }
 
 #[test]

@@ -56,10 +56,16 @@ impl Terminal {
     /// Waits until a text is shown.
     #[track_caller]
     pub fn wait_for(&self, text: &str) {
+        self.wait_until(&format!("{text:?} shown"), || self.shown().contains(text));
+    }
+
+    /// Waits until something is so, which is named for the failure that else follows.
+    #[track_caller]
+    pub fn wait_until(&self, what: &str, is_so: impl Fn() -> bool) {
         let began = Instant::now();
-        while !self.shown().contains(text) {
+        while !is_so() {
             let waits = began.elapsed() < PATIENCE;
-            assert!(waits, "{text:?} is not shown, but {:?}", self.shown());
+            assert!(waits, "never {what}; shown is {:?}", self.shown());
             std::thread::sleep(Duration::from_millis(20));
         }
     }
