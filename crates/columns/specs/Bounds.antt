@@ -3,7 +3,7 @@ use mathlib.Core.Path.{_≡_}
 use Prim.Native.Nat.{ℕ, _≤_, _<_}
 use mathlib.Core.List.{List}
 use Rattle.settings.specs.Settings.{Settings}
-use Rattle.places.specs.Places.{rowStart, startAt, cellStart}
+use Rattle.places.specs.Places.{rowStart, firstWord, startAt, cellStart}
 use Rattle.places.specs.declared.Row.{Row}
 use Rattle.places.specs.declared.RowStart.{RowStart}
 use Rattle.columns.specs.Columns.{picks}
@@ -27,6 +27,11 @@ pub record Within (C : ℕ) (a : Starts) (n : ℕ) : Type 0 where
   pub row1 : cellStart (a .row1) C ≤ n
   pub prev0 : cellStart (a .prev0) C ≤ n
   pub prev1 : cellStart (a .prev1) C ≤ n
+
+-- the revisited row ends before those begin that are filled and that are read last, as in Setup
+pub record Behind (C : ℕ) (a : Starts) : Type 0 where
+  pub row0 : cellStart (a .row1) C ≤ firstWord (a .row0)
+  pub prev0 : cellStart (a .row1) C ≤ firstWord (a .prev0)
 
 -- what the output of a state picks, which is two columns
 pub record Picked (S : Settings) (s : List ℕ) (p : Picks) : Type 0 where

@@ -8,7 +8,7 @@ use mathlib.Core.List.{List, [], _∷_, _++_}
 use lib.ListN.{length, getD, take, drop, length-append}
 use lib.Seq.{getD-take, take-at, drop-at, take-nil, take-take, take-add, drop-drop}
 use Rattle.lists.specs.Zip.{zipInto, zipAt}
-use Rattle.lists.proofs.ZipLaws.{zip-undo}
+use Rattle.lists.proofs.ZipLaws.{zip-none, zip-undo}
 
 module _ {A : Type 0} where
   pub append-inj : (a b c d : List A) → length a ≡ length b → a ++ c ≡ b ++ d → (a ≡ b) × (c ≡ d)
@@ -111,3 +111,39 @@ module _ (f : ℕ → ℕ → ℕ) where
 
   pub part-at : (a n : ℕ) (xs ys : List ℕ) → length ys ≤ n → take n (drop a (zipAt f a xs ys)) ≡ zipInto f (take n (drop a xs)) ys
   part-at a n xs ys h = ap (take n) (drop-zipAt a xs ys) ∙ take-zip n (drop a xs) ys h
+
+-- ---- two changes, each from a place on, in either order
+
+module _ (f g : ℕ → ℕ → ℕ) where
+  -- where they meet in no place
+  pub apart-swap : (a b : ℕ) (m xs ys : List ℕ) → b + length ys ≤ a → zipAt f a (zipAt g b m ys) xs ≡ zipAt g b (zipAt f a m xs) ys
+  unfolding zipAt zipInto
+  apart-swap a zero m xs [] h = ap (λ (l : List ℕ). zipAt f a l xs) (zip-none g m) ∙ sym (zip-none g (zipAt f a m xs))
+  apart-swap zero zero m xs (y ∷ ys) h = absurd (omega arith)
+  apart-swap (suc a) zero [] xs (y ∷ ys) h = refl
+  apart-swap (suc a) zero (u ∷ m) xs (y ∷ ys) h = ap (λ (l : List ℕ). g u y ∷ l) (apart-swap a zero m xs ys (omega arith))
+  apart-swap zero (suc b) m xs ys h = absurd (omega arith)
+  apart-swap (suc a) (suc b) [] xs ys h = refl
+  apart-swap (suc a) (suc b) (u ∷ m) xs ys h = ap (λ (l : List ℕ). u ∷ l) (apart-swap a b m xs ys (omega arith))
+
+  -- where the order does not matter in a place that both meet
+  module _ (e : (u x y : ℕ) → f (g u y) x ≡ g (f u x) y) where
+    zip-swap : (m xs ys : List ℕ) → zipInto f (zipInto g m ys) xs ≡ zipInto g (zipInto f m xs) ys
+    unfolding zipInto
+    zip-swap [] xs ys = refl
+    zip-swap (u ∷ m) [] [] = refl
+    zip-swap (u ∷ m) [] (y ∷ ys) = refl
+    zip-swap (u ∷ m) (x ∷ xs) [] = refl
+    zip-swap (u ∷ m) (x ∷ xs) (y ∷ ys) = ap₂ (λ (h : ℕ) (t : List ℕ). h ∷ t) (e u x y) (zip-swap m xs ys)
+
+    pub zipAt-swap : (a b : ℕ) (m xs ys : List ℕ) → zipAt f a (zipAt g b m ys) xs ≡ zipAt g b (zipAt f a m xs) ys
+    unfolding zipAt zipInto
+    zipAt-swap zero zero m xs ys = zip-swap m xs ys
+    zipAt-swap zero (suc b) [] xs ys = refl
+    zipAt-swap zero (suc b) (u ∷ m) [] ys = refl
+    zipAt-swap zero (suc b) (u ∷ m) (x ∷ xs) ys = ap (λ (l : List ℕ). f u x ∷ l) (zipAt-swap zero b m xs ys)
+    zipAt-swap (suc a) zero [] xs ys = refl
+    zipAt-swap (suc a) zero (u ∷ m) xs [] = refl
+    zipAt-swap (suc a) zero (u ∷ m) xs (y ∷ ys) = ap (λ (l : List ℕ). g u y ∷ l) (zipAt-swap a zero m xs ys)
+    zipAt-swap (suc a) (suc b) [] xs ys = refl
+    zipAt-swap (suc a) (suc b) (u ∷ m) xs ys = ap (λ (l : List ℕ). u ∷ l) (zipAt-swap a b m xs ys)

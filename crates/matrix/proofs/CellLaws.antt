@@ -1,15 +1,18 @@
 -- Laws of the rotation and of cells. Assumes nothing.
 use mathlib.Core.Path.{_≡_, sym, ap, ap₂, _∙_}
+use mathlib.Core.Logic.{_⊎_, inl, inr}
 use Prim.Native.Nat.{ℕ, _+_, _-_, _%_, _<_, _≤_}
 use native.Mathlib.Omega.{arith}
 use native.Mathlib.Nat.{add-sub-cancel-left}
 use mathlib.Core.List.{List, _++_}
 use lib.ListN.{length, getD, take, drop, length-take, length-drop}
 use lib.Seq.{getD-take, getD-drop}
-use lib.Bits.{bitXor}
+use lib.Bits.{bitXor, xor-comm}
 use Rattle.lists.specs.Zip.{zipAt, xorInto, tabulate}
 use Rattle.lists.proofs.Words.{AllWords}
 use Rattle.lists.proofs.ZipLaws.{length-tabulate, getD-tabulate, tabulate-words, put-zip}
+use Rattle.lists.proofs.Parts.{part-after, apart-swap, zipAt-swap}
+use Rattle.mixer.proofs.WordLaws.{xor-assoc}
 use Rattle.rate.specs.Rate.{rand}
 use Rattle.matrix.specs.Cells.{cellFrom, rotated}
 
@@ -53,3 +56,25 @@ cell-part a p m e = ap₂ (λ (n k : ℕ). take n (drop k m)) (add-sub-cancel-le
 pub put-xored : (a : ℕ) (m words : List ℕ) → length words ≡ 12 → zipAt (λ x y. y) a m (xorInto (cellFrom a m) words) ≡ zipAt bitXor a m words
 unfolding cellFrom zipAt
 put-xored a m words h = ap (λ (l : List ℕ). take a m ++ l) (put-zip bitXor 12 (drop a m) words (omega (arith, h)))
+
+pub cell-after : (a b : ℕ) (m words : List ℕ) → b + length words ≤ a → cellFrom a (zipAt bitXor b m words) ≡ cellFrom a m
+unfolding cellFrom
+cell-after a b m words h = part-after bitXor b a 12 m words h
+
+-- a cell written from another one XORed with words, and other words XORed into a cell: in either order where the first write is an XOR too,
+-- or where the second cell lies before both
+module _ (from to back : ℕ) (m out turned : List ℕ) (long : length out ≡ 12) (long′ : length turned ≡ 12) where
+  abbrev written : List ℕ → List ℕ
+  written l = zipAt (λ x y. y) to l (xorInto (cellFrom from l) out)
+
+  pub either-order : (from ≡ to) ⊎ ((back + 12 ≤ from) × (back + 12 ≤ to))
+      → written (zipAt bitXor back m turned) ≡ zipAt bitXor back (written m) turned
+  either-order (inl one) =
+      let xored : (l : List ℕ) → written l ≡ zipAt bitXor to l out = λ l. ap (λ (n : ℕ). zipAt (λ x y. y) to l (xorInto (cellFrom n l) out)) one ∙ put-xored to l out long in
+      let turns : (u x y : ℕ) → bitXor (bitXor u y) x ≡ bitXor (bitXor u x) y = λ u x y. xor-assoc u y x ∙ ap (bitXor u) (xor-comm y x) ∙ sym (xor-assoc u x y) in
+      xored (zipAt bitXor back m turned) ∙ zipAt-swap bitXor bitXor turns to back m out turned
+      ∙ ap (λ (l : List ℕ). zipAt bitXor back l turned) (sym (xored m))
+  either-order (inr apart) =
+      let read = cell-after from back m turned (omega (arith, apart .0, long′)) in
+      ap (λ (l : List ℕ). zipAt (λ x y. y) to (zipAt bitXor back m turned) (xorInto l out)) read
+      ∙ apart-swap (λ x y. y) bitXor to back m (xorInto (cellFrom from m) out) turned (omega (arith, apart .1, long′))

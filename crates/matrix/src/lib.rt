@@ -4,6 +4,7 @@ use places::RowStart;
 use profile::Profile;
 use rate::output;
 ghost use mathlib.Core.Path.{_≡_};
+ghost use mathlib.Core.Logic.{_⊎_};
 ghost use Prim.Native.Nat.{_+_, _≤_, _<_};
 ghost use lib.ListN.{length};
 ghost use lib.Bits.{bitXor};
@@ -99,7 +100,8 @@ fn xor_rotated(m: &mut [u64], a: usize, rand: &[u64], s: &[u64; 16], omega: usiz
 }
 
 // What a column writes, for any omega: the cell at `from` XORed with the output, in place of the cell at `to`; then the output, rotated,
-// XORed into the cell at `back`.
+// XORed into the cell at `back`. The code turns this order round, which changes nothing where the first write is an XOR too or `back` is
+// apart: the compiler then reads the output in the same pairs of words for odd omega as for even, and each pair once.
 pub fn write_rotated(
     m: &mut [u64],
     from: usize,
@@ -109,11 +111,12 @@ pub fn write_rotated(
     omega: usize,
 )
     requires { ⌜ (from + cellWords ≤ length (now m)) × (to + cellWords ≤ length (now m)) × (back + cellWords ≤ length (now m)) ⌝ }
+    requires { ⌜ (from ≡ to) ⊎ ((back + cellWords ≤ from) × (back + cellWords ≤ to)) ⌝ }
     ensures { λ _. ⌜ now (m .exit) ≡ zipAt bitXor back (zipAt (λ x y. y) to (now (m .entry)) (xorInto (cellFrom from (now (m .entry))) («rand-of» (now (s .entry))))) (rotated omega («rand-of» (now (s .entry)))) ⌝ }
 {
     let rand = output(s);
+    xor_rotated(m, back, &rand, s, omega);
     let end = from + Profile::CELL_WORDS;
     let words = xored(&m[from..end], &rand);
     put_cell(m, to, &words);
-    xor_rotated(m, back, &rand, s, omega);
 }

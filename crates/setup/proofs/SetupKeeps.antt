@@ -12,8 +12,8 @@ use Rattle.settings.specs.Settings.{Settings}
 use Rattle.settings.specs.declared.Parameters.{Parameters}
 use Rattle.setup_order.specs.SetupOrder.{order}
 use Rattle.setup_order.specs.declared.Order.{Order}
-use Rattle.setup_order.proofs.Windows.{row1-lt, prev1-lt}
-use Rattle.columns.specs.Bounds.{startsOf, Within}
+use Rattle.setup_order.proofs.Windows.{row1-lt, row1-behind, prev1-lt}
+use Rattle.columns.specs.Bounds.{startsOf, Behind, Within}
 use Rattle.columns.specs.Columns.{Work, fillColumn, copyColumn, setupColumn}
 use Rattle.columns.proofs.RowLaws.{row-before, row-more, within}
 use Rattle.columns.proofs.View.{Below, Keeps, keeps-same, keeps-then, keeps-loop}
@@ -36,6 +36,14 @@ step-within k C n o e room =
     rw e
     (within (4 + k) C n (omega (arith, row-more (3 + k) C)) (rowsWith k (order k)) (omega arith) (omega (arith, before k .row1)) (omega arith)
     (omega (arith, before k .prev1)))
+
+pub step-behind : (k C : ℕ) (o : Order) → o ≡ order k → Behind C (startsOf C (rowsWith k o))
+step-behind k C o e =
+    rw e
+    (record {
+      row0 = omega (arith, row-before (order k .row1) (3 + k) C (before k .row1));
+      prev0 = omega (arith, row-before (order k .row1) (2 + k) C (row1-behind k));
+    })
 
 module _ (S : Settings) (u : Undoes (S .addition)) (n : ℕ) where
   abbrev C : ℕ

@@ -14,7 +14,7 @@ ghost use Prim.Native.Nat.{_+_, _*_, _-_, _≤_, _<_, _^_};
 ghost use lib.ListN.{length};
 ghost use Rattle.profile.specs.Profile.{cellWords};
 ghost use Rattle.settings.specs.Settings.{settings};
-ghost use Rattle.columns.specs.Bounds.{startsOf, Within};
+ghost use Rattle.columns.specs.Bounds.{startsOf, Behind, Within};
 ghost use Rattle.columns.specs.Columns.{work};
 ghost use Rattle.setup_order.specs.SetupOrder.{order};
 ghost use Rattle.setup.specs.Setup.{fillRow, copyRow, setupRow, rowsWith, setupRows, setup};
@@ -59,7 +59,7 @@ fn copy_row(s: &mut [u64; 16], m: &mut [u64], prev0: Row, row0: Row, p: Paramete
 
 // A row from 3 on.
 fn setup_row(s: &mut [u64; 16], m: &mut [u64], rows: Rows, p: Parameters) -> u64
-    requires { ⌜ Within (p .columns) (startsOf (p .columns) rows) (length (now m)) ⌝ }
+    requires { ⌜ Within (p .columns) (startsOf (p .columns) rows) (length (now m)) × Behind (p .columns) (startsOf (p .columns) rows) ⌝ }
     ensures { λ r. ⌜ (r ≡ p .columns) × (work (now (s .exit)) (now (m .exit)) ≡ setupRow (settings p) rows (work (now (s .entry)) (now (m .entry)))) ⌝ }
 {
     let starts = Starts::of(rows, p.columns);

@@ -4,6 +4,7 @@ use mathlib.Core.Path.{_≡_, refl, sym, ap, _∙_}
 use Prim.Native.Nat.{ℕ, zero, suc, _+_, _-_, _*_, _/_, _%_, _^_, _≤_, _<_}
 use native.Mathlib.Nat.{add-suc, pow-suc, suc-mul, zero-mod, zero-mul, mod-lt, mod-eq-of-lt, mod-add-mod, mul-mod-right, eq-or-lt-of-le}
 use native.Mathlib.Nat.{mod-one, mul-assoc, mul-add, mul-one}
+use native.Mathlib.Decide.{decLt}
 use native.Mathlib.Omega.{arith}
 use mathlib.Core.Bool.{Bool, true, false, cond, not}
 use lib.Pow.{pow-pos, pow-mono}
@@ -157,6 +158,17 @@ wnd-le k = omega (arith, order-at k .row0-is)
 
 pub row1-lt : (k : ℕ) → order k .row1 < 3 + k
 row1-lt k = omega (arith, row1-lt-wnd (order-at k), wnd-le k)
+
+-- row1 is 0 where a window begins, and elsewhere the window has ended before the row before
+pub row1-behind : (k : ℕ) → order k .row1 < 2 + k
+row1-behind k =
+    let h = order-at k in
+    elim (decLt 0 (h .j)) [
+      | yes some ↦ omega (arith, h .row0-is, row1-lt-wnd h)
+      | no none ↦
+        let first : h .j ≡ 0 = omega arith in
+        omega (arith, h .row1-is ∙ ap (λ (n : ℕ). n * order k .stp % order k .wnd) first ∙ ap (λ (n : ℕ). n % order k .wnd) (zero-mul (order k .stp)) ∙ zero-mod (order k .wnd))
+    ]
 
 pub prev1-lt : (k : ℕ) → order k .prev1 < 3 + k
 prev1-lt k = omega (arith, order-at k .prev1-lt, wnd-le k)

@@ -21,7 +21,9 @@ abbrev μ-loop : tie.MeasureT-loop
 setup-column-requires : tie.Need-setup-column-requires Inv-loop μ-loop
 setup-column-requires c κs =
     let d = c .before .before .before .before .loop .inv in
-    (omega arith, omega (arith, d .left), rw (c .before .before .before .before .before .of .ensures, d .same) (c .before .before .before .before .before .before .before .pre))
+    let starts = c .before .before .before .before .before .of .ensures in
+    let pre = c .before .before .before .before .before .before .before .pre in
+    (omega arith, omega (arith, d .left), rw (starts, d .same) (pre .0), rw starts (pre .1))
 
 pub setup-row-spec : {M : Type 1} → statement M
 unfolding setupRow

@@ -1,6 +1,7 @@
 -- `write_setup` meets its contract: the two writes in their order. The place of the first is said in full, so that a refusal names the
 -- column that differs. Assumes nothing.
 use mathlib.Core.Path.{_≡_, sym, ap, _∙_}
+use mathlib.Core.Logic.{inr}
 use Prim.Native.Nat.{ℕ}
 use native.Mathlib.Omega.{arith}
 use lib.Bits.{bitXor}
@@ -13,6 +14,9 @@ use Rattle.columns.specs.Columns.{setupWritten}
 use Rattle.columns.proofs.RowLaws.{row0-place, row1-place, prev0-place}
 use Rattle.setup_columns.proofs.write_setup.Statement.{statement}
 use Rattle.setup_columns.proofs.write_setup.Tie as tie
+
+write-rotated-requires : tie.Need-write-rotated-requires
+write-rotated-requires c κs = (omega arith, inr (omega arith, omega arith))
 
 returns : tie.Need-returns
 unfolding setupWritten
@@ -49,5 +53,5 @@ returns-2 c r e =
 pub write-setup-spec : {M : Type 1} → statement M
 write-setup-spec =
     tie.close
-    (tie.spec (omega arith) (omega arith) (omega arith) (omega arith) (omega arith) returns (omega arith) (omega arith) (omega arith) (omega arith) (omega arith) (omega arith) (omega arith) (omega arith)
+    (tie.spec (omega arith) (omega arith) (omega arith) write-rotated-requires (omega arith) returns (omega arith) (omega arith) (omega arith) (omega arith) (omega arith) (omega arith) (omega arith) (omega arith)
     (omega arith) returns-2)

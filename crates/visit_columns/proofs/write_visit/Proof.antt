@@ -1,5 +1,6 @@
 -- `write_visit` meets its contract: the two XORs in their order. Assumes nothing.
-use mathlib.Core.Path.{sym, ap, _∙_}
+use mathlib.Core.Path.{refl, sym, ap, _∙_}
+use mathlib.Core.Logic.{inl}
 use Prim.Native.Nat.{ℕ}
 use native.Mathlib.Omega.{arith}
 use mathlib.Core.List.{List}
@@ -45,5 +46,5 @@ returns-2 c r e =
 pub write-visit-spec : {M : Type 1} → statement M
 write-visit-spec =
     tie.close
-    (tie.spec (omega arith) (omega arith) (omega arith) (omega arith) returns (omega arith) (omega arith) (omega arith) (omega arith) (omega arith) (omega arith)
+    (tie.spec (omega arith) (omega arith) (λ c κs. (omega arith, inl refl)) (omega arith) returns (omega arith) (omega arith) (omega arith) (omega arith) (omega arith) (omega arith)
     returns-2)
