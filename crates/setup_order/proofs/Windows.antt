@@ -166,8 +166,8 @@ row1-behind k =
     elim (decLt 0 (h .j)) [
       | yes some ↦ omega (arith, h .row0-is, row1-lt-wnd h)
       | no none ↦
-        let first : h .j ≡ 0 = omega arith in
-        omega (arith, h .row1-is ∙ ap (λ (n : ℕ). n * order k .stp % order k .wnd) first ∙ ap (λ (n : ℕ). n % order k .wnd) (zero-mul (order k .stp)) ∙ zero-mod (order k .wnd))
+          let first : h .j ≡ 0 = omega arith in
+          omega (arith, h .row1-is ∙ ap (λ (n : ℕ). n * order k .stp % order k .wnd) first ∙ ap (λ (n : ℕ). n % order k .wnd) (zero-mul (order k .stp)) ∙ zero-mod (order k .wnd))
     ]
 
 pub prev1-lt : (k : ℕ) → order k .prev1 < 3 + k
