@@ -42,18 +42,21 @@ pub fn round(s: &mut [u64; 16])
     }
 }
 
-// The table's loop once more, and not `round` in a loop: so the compiler keeps the state in registers from round to round.
+// The table's loop once more, and not `round` in a loop, on a copy of the state: so the compiler keeps the words in registers from round to
+// round.
 pub fn rounds(s: &mut [u64; 16], n: usize)
     ensures { λ _. ⌜ now (s .exit) ≡ rounds plainSum n (now (s .entry)) ⌝ }
 {
     let quads = Profile::quads();
+    let mut t = *s;
     let mut k = 0;
     while k < n {
         let mut i = 0;
         while i < 8 {
-            apply_g(s, quads[i]);
+            apply_g(&mut t, quads[i]);
             i += 1;
         }
         k += 1;
     }
+    *s = t;
 }
