@@ -28,7 +28,7 @@ pub record Within (C : ℕ) (a : Starts) (n : ℕ) : Type 0 where
   pub prev0 : cellStart (a .prev0) C ≤ n
   pub prev1 : cellStart (a .prev1) C ≤ n
 
--- the revisited row ends before those begin that are filled and that are read last, as in Setup
+-- the revisited row ends before the row that is filled begins, and before the one that was filled last, as in Setup
 pub record Behind (C : ℕ) (a : Starts) : Type 0 where
   pub row0 : cellStart (a .row1) C ≤ firstWord (a .row0)
   pub prev0 : cellStart (a .row1) C ≤ firstWord (a .prev0)

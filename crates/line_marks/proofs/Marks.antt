@@ -19,16 +19,6 @@ use Rattle.line_marks.specs.Ends.{NextEnd, EndsOf}
 
 -- ---- the end of a text
 
-until-length : (c : ℕ) (l : List ℕ) → length (until c l) ≤ length l
-unfolding until
-until-length c [] = omega arith
-until-length c (b ∷ l) =
-    elim (eqb b c) as (λ t. length (cond t [] (b ∷ until c l)) ≤ suc (length l)) [ true ↦ omega arith | false ↦ omega (arith, until-length c l) ]
-
-pub end-inside : (c : ℕ) (l : List ℕ) (a : ℕ) → a ≤ length l → endAt c l a ≤ length l
-unfolding endAt
-end-inside c l a h = omega (arith, until-length c (drop a l), length-drop a l)
-
 -- no c stands from place a up to place i
 pub record Sought (c : ℕ) (l : List ℕ) (a i : ℕ) : Type 0 where
   pub inside : i ≤ length l

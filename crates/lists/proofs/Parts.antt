@@ -6,7 +6,7 @@ use native.Mathlib.Nat.{zero-add, suc-add, mul-suc, mul-zero, mul-le-mul-left, n
 use native.Mathlib.Omega.{arith}
 use mathlib.Core.List.{List, [], _∷_, _++_}
 use lib.ListN.{length, getD, take, drop, length-append}
-use lib.Seq.{getD-take, take-at, drop-at, take-nil, take-take, take-add, drop-drop}
+use lib.Seq.{take-at, drop-at, take-nil, take-take, take-add, drop-drop}
 use Rattle.lists.specs.Zip.{zipInto, zipAt}
 use Rattle.lists.proofs.ZipLaws.{zip-none, zip-undo}
 
@@ -74,11 +74,6 @@ module _ (f : ℕ → ℕ → ℕ) where
   take-zipAt zero xs ys = refl
   take-zipAt (suc a) [] ys = refl
   take-zipAt (suc a) (x ∷ xs) ys = ap (λ (l : List ℕ). x ∷ l) (take-zipAt a xs ys)
-
-  -- what stands before the place is kept
-  pub getD-before : (a : ℕ) (xs ys : List ℕ) (i : ℕ) → i < a → getD (zipAt f a xs ys) i 0 ≡ getD xs i 0
-  getD-before a xs ys i h =
-      sym (getD-take a (zipAt f a xs ys) i 0 h) ∙ ap (λ (l : List ℕ). getD l i 0) (take-zipAt a xs ys) ∙ getD-take a xs i 0 h
 
   drop-zipAt : (a : ℕ) (xs ys : List ℕ) → drop a (zipAt f a xs ys) ≡ zipInto f (drop a xs) ys
   unfolding zipAt zipInto

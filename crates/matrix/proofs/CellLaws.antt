@@ -6,7 +6,6 @@ use native.Mathlib.Omega.{arith}
 use native.Mathlib.Nat.{add-sub-cancel-left}
 use mathlib.Core.List.{List, _++_}
 use lib.ListN.{length, getD, take, drop, length-take, length-drop}
-use lib.Seq.{getD-take, getD-drop}
 use lib.Bits.{bitXor, xor-comm}
 use Rattle.lists.specs.Zip.{zipAt, xorInto, tabulate}
 use Rattle.lists.proofs.Words.{AllWords}
@@ -14,6 +13,7 @@ use Rattle.lists.proofs.ZipLaws.{length-tabulate, getD-tabulate, tabulate-words
 use Rattle.lists.proofs.Parts.{part-after, apart-swap, zipAt-swap}
 use Rattle.mixer.proofs.WordLaws.{xor-assoc}
 use Rattle.rate.specs.Rate.{rand}
+use Rattle.rate.proofs.Words.{getD-rand}
 use Rattle.matrix.specs.Cells.{cellFrom, rotated}
 
 pub length-rotated : (ω : ℕ) (words : List ℕ) → length (rotated ω words) ≡ 12
@@ -31,21 +31,17 @@ rotated-words ω words h = tabulate-words 12 (λ k. getD words ((k + ω) % 12) 0
 -- the rotation takes the first twelve words, so that of a state is that of its output; and twelve words on, every word is in its place
 -- again
 pub rotated-state : (ω : ℕ) (s : List ℕ) → rotated (ω % 12) s ≡ rotated ω (rand s)
-unfolding rotated rand
+unfolding rotated
 rotated-state ω s =
     let around : (j : ℕ) → (j + ω % 12) % 12 ≡ (j + ω) % 12 = λ j. omega arith in
     let inside : (j : ℕ) → (j + ω) % 12 < 12 = λ j. omega arith in
-    let word : (j : ℕ) → getD s ((j + ω % 12) % 12) 0 ≡ getD (rand s) ((j + ω) % 12) 0 = λ j. ap (λ (k : ℕ). getD s k 0) (around j) ∙ sym (getD-tabulate 12 (λ k. getD s k 0) ((j + ω) % 12) (inside j)) in
+    let word : (j : ℕ) → getD s ((j + ω % 12) % 12) 0 ≡ getD (rand s) ((j + ω) % 12) 0 = λ j. ap (λ (k : ℕ). getD s k 0) (around j) ∙ sym (getD-rand s ((j + ω) % 12) (inside j)) in
     λ i. tabulate 12 (λ j. word j i)
 
 module _ (a : ℕ) (m : List ℕ) (fits : a + 12 ≤ length m) where
   pub length-cell : length (cellFrom a m) ≡ 12
   unfolding cellFrom
   length-cell = simp (length-take, length-drop) (omega arith)
-
-  pub getD-cell : (j : ℕ) → j < 12 → getD (cellFrom a m) j 0 ≡ getD m (a + j) 0
-  unfolding cellFrom
-  getD-cell j h = getD-take 12 (drop a m) j 0 h ∙ getD-drop a m j 0
 
 -- the part that the code cuts out
 pub cell-part : (a p : ℕ) (m : List ℕ) → a ≡ p → take (a + 12 - a) (drop a m) ≡ cellFrom p m
