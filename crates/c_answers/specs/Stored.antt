@@ -1,7 +1,9 @@
 -- An answer under a C name: its number is returned, and its other fields are stored where the caller lends a place for them.
+use mathlib.Core.Bool.{Bool}
 use Prim.Native.Nat.{ℕ}
 use mathlib.Core.List.{List}
 use lib.ListN.{getD}
+use Rattle.mixer.specs.Mixers.{mixerOf}
 use Rattle.settings.specs.declared.Parameters.{Parameters}
 use Rattle.settings.specs.declared.StoredParameters.{StoredParameters}
 use Rattle.settings.specs.declared.Lengths.{Lengths}
@@ -9,8 +11,9 @@ use Rattle.derivation.specs.declared.Costs.{Costs}
 use Rattle.line_form.specs.declared.LineValues.{LineValues}
 use Rattle.line_form.specs.declared.LineLength.{LineLength}
 
-abbrev pub parameters : ℕ → ℕ → ℕ → ℕ → ℕ → Parameters
-parameters T R C ρ ω = record { time = T; rows = R; columns = C; rounds = ρ; rotation = ω }
+abbrev pub parameters : ℕ → ℕ → ℕ → ℕ → ℕ → Bool → Parameters
+parameters T R C ρ ω blamka =
+    record { time = T; rows = R; columns = C; rounds = ρ; rotation = ω; mixer = mixerOf blamka }
 
 abbrev pub storedParameters : ℕ → ℕ → ℕ → StoredParameters
 storedParameters T R C = record { time = T; rows = R; columns = C }

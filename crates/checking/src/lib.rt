@@ -31,10 +31,11 @@ fn check_accepted(
     requires { ⌜ plainNumber p (input (now password) (now salt) (length (now stored))) (now matrix) ≡ 0 ⌝ }
     ensures { λ r. ⌜ Compared p (input (now (password .entry)) (now (salt .entry)) (length (now (stored .entry)))) (now (stored .entry)) (now (matrix .entry)) (now (matrix .exit)) (r .costs) (flag (r .same)) ⌝ }
 {
+    let mixer = p.mixer;
     let mut s = [0; 16];
     let ran = run_plain(&mut s, password, salt, stored.len(), p, matrix);
-    let c = compare(&mut s, stored);
-    let calls = clear_run(&mut s, c.calls, p.rounds);
+    let c = compare(&mut s, stored, mixer);
+    let calls = clear_run(&mut s, c.calls, p.rounds, mixer);
     let costs = spent(ran.full + calls, ran.reduced, p);
     Checked {
         costs,

@@ -1,6 +1,7 @@
 // Zeros in place of what a derivation worked on, once nothing needs it any more.
-use permutation::round;
-use permutation::rounds;
+use calls::rounds;
+use mixer::Mixer;
+use permutation::plain_round;
 use profile::Profile;
 use settings::Parameters;
 use settings::matrix_words;
@@ -21,7 +22,7 @@ pub fn clear_state(s: &mut [u64; 16], number: u64) -> u64
     ensures { λ r. ⌜ (r ≡ number) × (now (s .exit) ≡ replicate stateWords 0) ⌝ }
 {
     *s = [0; 16];
-    round(s);
+    plain_round(s);
     number + s[0]
 }
 
@@ -40,18 +41,26 @@ fn clear_stack(blocks: usize, zero: u64) -> u64
     block[(below % 17) as usize]
 }
 
-// Zeros in the state, and on the stack where calls of n rounds kept words of it there if there are several; the answer is the number
-// that is given. The calls' function is used once more, of zeros: one that is called for in two places stays a function, and a reduced
-// call then stays small enough to be spread into the columns.
-pub fn clear_run(s: &mut [u64; 16], number: u64, n: usize) -> u64
+// Whether reduced calls may leave words of the state on the stack. A single round of the plain mixer leaves none.
+fn stack_used(n: usize, mixer: Mixer) -> bool {
+    match mixer {
+        Mixer::Plain => n != Profile::USUAL_ROUNDS,
+        Mixer::BlaMka => true,
+    }
+}
+
+// Zeros in the state, and on the stack where calls of n rounds may have left words of it; the answer is the number that is given. The
+// calls' function is used once more, of zeros: one that is called for in two places stays a function, and a reduced call then stays small
+// enough to be spread into the columns.
+pub fn clear_run(s: &mut [u64; 16], number: u64, n: usize, mixer: Mixer) -> u64
     ensures { λ r. ⌜ (r ≡ number) × (now (s .exit) ≡ replicate stateWords 0) ⌝ }
 {
     let kept = clear_state(s, number);
-    if n == Profile::USUAL_ROUNDS {
-        return kept;
+    if stack_used(n, mixer) {
+        rounds(s, n, mixer);
+        return clear_stack(STACK_BLOCKS, s[0]) + kept;
     }
-    rounds(s, n);
-    clear_stack(STACK_BLOCKS, s[0]) + kept
+    kept
 }
 
 // Zeros in the first n words.

@@ -7,11 +7,13 @@ use c_answers::store_row;
 use c_answers::store_same;
 use c_answers::store_state;
 use c_answers::store_values;
+use mixer::Mixer;
 use profile::Profile;
 use settings::Lengths;
 use settings::Parameters;
 use settings::StoredParameters;
 ghost use mathlib.Core.Path.{_≡_};
+ghost use mathlib.Core.Bool.{false};
 ghost use lib.ListN.{length};
 ghost use Rattle.profile.specs.Profile.{usualRotation};
 ghost use Rattle.input.specs.Input.{input};
@@ -23,6 +25,28 @@ ghost use Rattle.line_form.specs.Contracts.{Read, Written};
 ghost use Rattle.line_writing.specs.Values.{values};
 ghost use Rattle.c_answers.specs.Stored.{parameters, storedParameters, lengthsOf, stored as «counts-stored», storedValues, storedLength};
 
+// The parameters that a caller gives one by one; the mixer is BlaMka where the last is true.
+fn gathered(
+    time: usize,
+    rows: usize,
+    columns: usize,
+    rounds: usize,
+    rotation: usize,
+    mixer: bool,
+) -> Parameters
+    ensures { λ r. ⌜ r ≡ parameters time rows columns rounds rotation mixer ⌝ }
+{
+    let mixer = Mixer::of(mixer);
+    Parameters {
+        time,
+        rows,
+        columns,
+        rounds,
+        rotation,
+        mixer,
+    }
+}
+
 // The plain derivation: fills the key, and leaves zeros in the used matrix.
 #[no_mangle]
 pub extern "C" fn lyra2_derive(
@@ -33,19 +57,14 @@ pub extern "C" fn lyra2_derive(
     columns: usize,
     rounds: usize,
     rotation: usize,
+    mixer: bool,
     key: &mut [u8],
     matrix: &mut [u64],
     counts: &mut [u64; 3],
 ) -> u32
-    ensures { λ r. ⌜ Derived (parameters time rows columns rounds rotation) (input (now (password .entry)) (now (salt .entry)) (length (now (key .entry)))) (now (key .entry)) (now (matrix .entry)) (now (key .exit)) (now (matrix .exit)) («counts-stored» r (now (counts .exit))) ⌝ }
+    ensures { λ r. ⌜ Derived (parameters time rows columns rounds rotation mixer) (input (now (password .entry)) (now (salt .entry)) (length (now (key .entry)))) (now (key .entry)) (now (matrix .entry)) (now (key .exit)) (now (matrix .exit)) («counts-stored» r (now (counts .exit))) ⌝ }
 {
-    let p = Parameters {
-        time,
-        rows,
-        columns,
-        rounds,
-        rotation,
-    };
+    let p = gathered(time, rows, columns, rounds, rotation, mixer);
     store_costs(deriving::derive(password, salt, p, key, matrix), counts)
 }
 
@@ -59,26 +78,21 @@ pub extern "C" fn lyra2_check(
     columns: usize,
     rounds: usize,
     rotation: usize,
+    mixer: bool,
     stored: &[u8],
     matrix: &mut [u64],
     same: &mut u32,
     counts: &mut [u64; 3],
 ) -> u32
-    ensures { λ r. ⌜ Compared (parameters time rows columns rounds rotation) (input (now (password .entry)) (now (salt .entry)) (length (now (stored .entry)))) (now (stored .entry)) (now (matrix .entry)) (now (matrix .exit)) («counts-stored» r (now (counts .exit))) (now (same .exit)) ⌝ }
+    ensures { λ r. ⌜ Compared (parameters time rows columns rounds rotation mixer) (input (now (password .entry)) (now (salt .entry)) (length (now (stored .entry)))) (now (stored .entry)) (now (matrix .entry)) (now (matrix .exit)) («counts-stored» r (now (counts .exit))) (now (same .exit)) ⌝ }
 {
-    let p = Parameters {
-        time,
-        rows,
-        columns,
-        rounds,
-        rotation,
-    };
+    let p = gathered(time, rows, columns, rounds, rotation, mixer);
     let a = checking::check(password, salt, p, stored, matrix);
     store_same(a, same);
     store_costs(a.costs, counts)
 }
 
-// The cost question. No cost depends on the rotation, so any will do.
+// The cost question. No cost depends on the rotation or on the mixer, so any will do.
 #[no_mangle]
 pub extern "C" fn lyra2_cost(
     key: usize,
@@ -90,7 +104,7 @@ pub extern "C" fn lyra2_cost(
     rounds: usize,
     counts: &mut [u64; 3],
 ) -> u32
-    ensures { λ r. ⌜ «counts-stored» r (now (counts .exit)) ≡ costAnswer (first (costChecks (lengthsOf key password salt) (parameters time rows columns rounds usualRotation))) (lengthsOf key password salt) (parameters time rows columns rounds usualRotation) ⌝ }
+    ensures { λ r. ⌜ «counts-stored» r (now (counts .exit)) ≡ costAnswer (first (costChecks (lengthsOf key password salt) (parameters time rows columns rounds usualRotation false))) (lengthsOf key password salt) (parameters time rows columns rounds usualRotation false) ⌝ }
 {
     let l = Lengths {
         key,
@@ -103,6 +117,7 @@ pub extern "C" fn lyra2_cost(
         columns,
         rounds,
         rotation: Profile::USUAL_ROTATION,
+        mixer: Mixer::Plain,
     };
     store_costs(costs::cost(l, p), counts)
 }
@@ -125,21 +140,16 @@ pub extern "C" fn lyra2_derive_recorded(
     columns: usize,
     rounds: usize,
     rotation: usize,
+    mixer: bool,
     key: &mut [u8],
     matrix: &mut [u64],
     record: &mut [u64],
     state: &mut [u64; 16],
     counts: &mut [u64; 3],
 ) -> u32
-    ensures { λ r. ⌜ Recorded (parameters time rows columns rounds rotation) (input (now (password .entry)) (now (salt .entry)) (length (now (key .entry)))) (now (key .entry)) (now (matrix .entry)) (now («record» .entry)) (now (key .exit)) (now (matrix .exit)) (now («record» .exit)) («counts-stored» r (now (counts .exit))) (now (state .exit)) ⌝ }
+    ensures { λ r. ⌜ Recorded (parameters time rows columns rounds rotation mixer) (input (now (password .entry)) (now (salt .entry)) (length (now (key .entry)))) (now (key .entry)) (now (matrix .entry)) (now («record» .entry)) (now (key .exit)) (now (matrix .exit)) (now («record» .exit)) («counts-stored» r (now (counts .exit))) (now (state .exit)) ⌝ }
 {
-    let p = Parameters {
-        time,
-        rows,
-        columns,
-        rounds,
-        rotation,
-    };
+    let p = gathered(time, rows, columns, rounds, rotation, mixer);
     let a = recorded::derive_recorded(password, salt, p, key, matrix, record);
     store_state(a, state);
     store_costs(a.costs, counts)

@@ -24,10 +24,11 @@ fn derive_accepted(
     requires { ⌜ plainNumber p (input (now password) (now salt) (length (now key))) (now matrix) ≡ 0 ⌝ }
     ensures { λ r. ⌜ Derived p (input (now (password .entry)) (now (salt .entry)) (length (now (key .entry)))) (now (key .entry)) (now (matrix .entry)) (now (key .exit)) (now (matrix .exit)) r ⌝ }
 {
+    let mixer = p.mixer;
     let mut s = [0; 16];
     let ran = run_plain(&mut s, password, salt, key.len(), p, matrix);
-    let between = squeeze(&mut s, key);
-    let calls = clear_run(&mut s, between, p.rounds);
+    let between = squeeze(&mut s, key, mixer);
+    let calls = clear_run(&mut s, between, p.rounds, mixer);
     spent(ran.full + calls, ran.reduced, p)
 }
 

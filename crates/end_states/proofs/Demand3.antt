@@ -1,6 +1,6 @@
--- Demand 3: of two accepted recorded derivations with the same T, R, C, ρ and ω, whatever their buffers held and however long they are,
--- whose padded inputs have equally many blocks of which at most one differs, the returned states, the used matrices and the used
--- records are all equal exactly when passwords, salts and key lengths are. It speaks of any two calls that met the contract of
+-- Demand 3: of two accepted recorded derivations with the same T, R, C, ρ, ω and mixer, whatever their buffers held and however long
+-- they are, whose padded inputs have equally many blocks of which at most one differs, the returned states, the used matrices and the
+-- used records are all equal exactly when passwords, salts and key lengths are. It speaks of any two calls that met the contract of
 -- `recorded::derive_recorded`. Assumes nothing.
 use mathlib.Core.Path.{_≡_, sym, ap, subst₂, _∙_}
 use mathlib.Core.Logic.{_↔_}
@@ -9,7 +9,7 @@ use native.Mathlib.Omega.{arith}
 use lib.ListN.{length, take}
 use Rattle.lists.specs.Zip.{putInto}
 use Rattle.lists.proofs.ZipLaws.{put-front}
-use Rattle.mixer.proofs.WordLaws.{plain-undoes}
+use Rattle.mixer.proofs.Additions.{undoes}
 use Rattle.settings.specs.Settings.{settings}
 use Rattle.settings.specs.Sizes.{matrixWords, recordWords, visitCount}
 use Rattle.settings.specs.declared.Parameters.{Parameters}
@@ -68,5 +68,5 @@ pub end-states-settle-inputs : (p : Parameters) (b : ℕ) (x y : Trial p) → At
 unfolding recordedChecks plainChecks costChecks
 end-states-settle-inputs p b x y h =
     subst₂ (λ (e f : End). EndAlike e f ↔ StartAlike (inputOf x) (inputOf y)) (sym (end-of x)) (sym (end-of y))
-    (end-states-tell-inputs (settings p) plain-undoes (omega (arith, bounds-of x)) b (inputOf x) (inputOf y) (x .matrix) (y .matrix)
+    (end-states-tell-inputs (settings p) (undoes (p .mixer)) (omega (arith, bounds-of x)) b (inputOf x) (inputOf y) (x .matrix) (y .matrix)
     (fits-of x) (fits-of y) h)

@@ -1,4 +1,5 @@
 // The absorption of the padded input. No block of its own ever holds the password.
+use mixer::Mixer;
 use padded_input::BLOCK_BYTES;
 use padded_input::NUMBER_BYTES;
 use padded_input::input_word;
@@ -9,7 +10,7 @@ ghost use mathlib.Core.Path.{_≡_};
 ghost use Prim.Native.Nat.{_<_};
 ghost use lib.ListN.{length};
 ghost use Rattle.lists.specs.Zip.{xorInto};
-ghost use Rattle.mixer.specs.Word.{plainSum};
+ghost use Rattle.mixer.specs.Mixers.{sumOf};
 ghost use Rattle.settings.specs.Settings.{settings};
 ghost use Rattle.input.specs.Input.{Short, padded, blocks, block, absorbInput, input, lengths, numbers, inputBlocks};
 
@@ -34,16 +35,22 @@ fn xor_block(s: &mut [u64; 16], password: &[u8], salt: &[u8], numbers: &[u64], b
 }
 
 // Absorbs the padded input for a list of numbers, and returns how many full calls were made.
-pub fn absorb_padded(s: &mut [u64; 16], password: &[u8], salt: &[u8], numbers: &[u64]) -> u64
+pub fn absorb_padded(
+    s: &mut [u64; 16],
+    password: &[u8],
+    salt: &[u8],
+    numbers: &[u64],
+    mixer: Mixer,
+) -> u64
     requires { ⌜ Short (length (now password)) (length (now salt)) (length (now numbers)) ⌝ }
-    ensures { λ r. ⌜ (now (s .exit) ≡ absorbInput plainSum (now (password .entry)) (now (salt .entry)) (now (numbers .entry)) (now (s .entry))) × (r ≡ blocks (length (now (password .entry))) (length (now (salt .entry))) (length (now (numbers .entry)))) ⌝ }
+    ensures { λ r. ⌜ (now (s .exit) ≡ absorbInput (sumOf mixer) (now (password .entry)) (now (salt .entry)) (now (numbers .entry)) (now (s .entry))) × (r ≡ blocks (length (now (password .entry))) (length (now (salt .entry))) (length (now (numbers .entry)))) ⌝ }
 {
     let n = block_count(password.len(), salt.len(), numbers.len());
     let mut calls = 0;
     let mut b = 0;
     while b < n {
         xor_block(s, password, salt, numbers, b);
-        full_call(s);
+        full_call(s, mixer);
         calls += 1;
         b += 1;
     }
@@ -59,7 +66,7 @@ pub fn absorb_input(
     p: Parameters,
 ) -> u64
     requires { ⌜ Short (length (now password)) (length (now salt)) 6 ⌝ }
-    ensures { λ calls. ⌜ (now (s .exit) ≡ absorbInput plainSum (now (password .entry)) (now (salt .entry)) (numbers (input (now (password .entry)) (now (salt .entry)) «key_length») (settings p)) (now (s .entry))) × (calls ≡ inputBlocks (lengths (input (now (password .entry)) (now (salt .entry)) «key_length»))) ⌝ }
+    ensures { λ calls. ⌜ (now (s .exit) ≡ absorbInput (sumOf (p .mixer)) (now (password .entry)) (now (salt .entry)) (numbers (input (now (password .entry)) (now (salt .entry)) «key_length») (settings p)) (now (s .entry))) × (calls ≡ inputBlocks (lengths (input (now (password .entry)) (now (salt .entry)) «key_length»))) ⌝ }
 {
     let numbers = [
         key_length as u64,
@@ -69,5 +76,6 @@ pub fn absorb_input(
         p.rows as u64,
         p.columns as u64,
     ];
-    absorb_padded(s, password, salt, &numbers)
+    let mixer = p.mixer;
+    absorb_padded(s, password, salt, &numbers, mixer)
 }

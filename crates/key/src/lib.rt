@@ -1,11 +1,12 @@
 // Squeezing the key out of a state, and comparing it with a stored one byte by byte as it comes.
 use key_bytes::PIECE_BYTES;
 use key_bytes::next_byte;
+use mixer::Mixer;
 ghost use mathlib.Core.Path.{_≡_};
 ghost use Prim.Native.Nat.{_^_, _<_};
 ghost use lib.ListN.{length, getD};
 ghost use lib.Bits.{bitOr, bitXor};
-ghost use Rattle.mixer.specs.Word.{plainSum};
+ghost use Rattle.mixer.specs.Mixers.{sumOf};
 ghost use Rattle.key.specs.Key.{keyBytes, pieces, callsBetween, squeezed, sameBytes};
 
 // How many pieces a key of so many bytes takes.
@@ -17,13 +18,13 @@ pub fn piece_count(bytes: usize) -> usize
 }
 
 // Fills the whole key, and returns how many full calls were made.
-pub fn squeeze(s: &mut [u64; 16], key: &mut [u8]) -> u64
-    ensures { λ r. ⌜ (now (key .exit) ≡ keyBytes plainSum (length (now (key .entry))) (now (s .entry))) × (now (s .exit) ≡ squeezed plainSum (length (now (key .entry))) (now (s .entry))) × (r ≡ callsBetween (length (now (key .entry)))) ⌝ }
+pub fn squeeze(s: &mut [u64; 16], key: &mut [u8], mixer: Mixer) -> u64
+    ensures { λ r. ⌜ (now (key .exit) ≡ keyBytes (sumOf mixer) (length (now (key .entry))) (now (s .entry))) × (now (s .exit) ≡ squeezed (sumOf mixer) (length (now (key .entry))) (now (s .entry))) × (r ≡ callsBetween (length (now (key .entry)))) ⌝ }
 {
     let mut calls = 0;
     let mut i = 0;
     while i < key.len() {
-        let next = next_byte(s, i);
+        let next = next_byte(s, i, mixer);
         key[i] = next.byte;
         calls += next.calls;
         i += 1;
@@ -47,14 +48,14 @@ pub struct Comparison {
 
 // Compares a stored key with the key of the same length, which is never stored. Every byte is
 // compared, so the time does not tell where the two differ.
-pub fn compare(s: &mut [u64; 16], stored: &[u8]) -> Comparison
-    ensures { λ r. ⌜ (r .same ≡ sameBytes (now (stored .entry)) (keyBytes plainSum (length (now (stored .entry))) (now (s .entry)))) × (now (s .exit) ≡ squeezed plainSum (length (now (stored .entry))) (now (s .entry))) × (r .calls ≡ callsBetween (length (now (stored .entry)))) ⌝ }
+pub fn compare(s: &mut [u64; 16], stored: &[u8], mixer: Mixer) -> Comparison
+    ensures { λ r. ⌜ (r .same ≡ sameBytes (now (stored .entry)) (keyBytes (sumOf mixer) (length (now (stored .entry))) (now (s .entry)))) × (now (s .exit) ≡ squeezed (sumOf mixer) (length (now (stored .entry))) (now (s .entry))) × (r .calls ≡ callsBetween (length (now (stored .entry)))) ⌝ }
 {
     let mut difference: u8 = 0;
     let mut calls = 0;
     let mut i = 0;
     while i < stored.len() {
-        let next = next_byte(s, i);
+        let next = next_byte(s, i, mixer);
         difference = differing(difference, stored, i, next.byte);
         calls += next.calls;
         i += 1;

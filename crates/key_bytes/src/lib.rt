@@ -1,11 +1,12 @@
 // The bytes of the key, one after another out of a state.
 use little_endian::byte_of;
+use mixer::Mixer;
 use profile::Profile;
 use sponge::duplex::full_call;
 ghost use mathlib.Core.Path.{_≡_};
 ghost use Prim.Native.Nat.{_%_, _<_};
 ghost use lib.ListN.{getD};
-ghost use Rattle.mixer.specs.Word.{plainSum};
+ghost use Rattle.mixer.specs.Mixers.{sumOf};
 ghost use Rattle.key_bytes.specs.KeyBytes.{pieceBytes, fullCalls, piece, callsBefore};
 
 const WORD_BYTES: usize = 8;
@@ -13,8 +14,8 @@ const WORD_BYTES: usize = 8;
 pub const PIECE_BYTES: usize = WORD_BYTES * Profile::CELL_WORDS;
 
 // The full call between two pieces: it is made before the first byte of each piece but the first.
-fn call_between(s: &mut [u64; 16], i: usize) -> u64
-    ensures { λ r. ⌜ (now (s .exit) ≡ fullCalls plainSum (callsBefore i) (now (s .entry))) × (r ≡ callsBefore i) ⌝ }
+fn call_between(s: &mut [u64; 16], i: usize, mixer: Mixer) -> u64
+    ensures { λ r. ⌜ (now (s .exit) ≡ fullCalls (sumOf mixer) (callsBefore i) (now (s .entry))) × (r ≡ callsBefore i) ⌝ }
 {
     if i % PIECE_BYTES != 0 {
         return 0;
@@ -22,7 +23,7 @@ fn call_between(s: &mut [u64; 16], i: usize) -> u64
     if i == 0 {
         return 0;
     }
-    full_call(s);
+    full_call(s, mixer);
     1
 }
 
@@ -41,10 +42,10 @@ pub struct Next {
 }
 
 // Byte i of the key, out of the state that the bytes before it left.
-pub fn next_byte(s: &mut [u64; 16], i: usize) -> Next
-    ensures { λ r. ⌜ (now (s .exit) ≡ fullCalls plainSum (callsBefore i) (now (s .entry))) × (r .byte ≡ getD (piece (now (s .exit))) (i % pieceBytes) 0) × (r .calls ≡ callsBefore i) ⌝ }
+pub fn next_byte(s: &mut [u64; 16], i: usize, mixer: Mixer) -> Next
+    ensures { λ r. ⌜ (now (s .exit) ≡ fullCalls (sumOf mixer) (callsBefore i) (now (s .entry))) × (r .byte ≡ getD (piece (now (s .exit))) (i % pieceBytes) 0) × (r .calls ≡ callsBefore i) ⌝ }
 {
-    let calls = call_between(s, i);
+    let calls = call_between(s, i, mixer);
     let byte = output_byte(s, i % PIECE_BYTES);
     Next { byte, calls }
 }

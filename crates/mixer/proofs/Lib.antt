@@ -1,3 +1,4 @@
--- The laws of words and of G.
+-- The laws of words, of the mixers' additions and of G.
 pub mod WordLaws
+pub mod Additions
 pub mod GLaws

@@ -6,6 +6,10 @@ use Prim.Native.Nat.{ℕ, _+_, _-_, _*_, _/_, _%_, _^_, _<_}
 abbrev pub plainSum : ℕ → ℕ → ℕ
 plainSum a b = (a + b) % 2 ^ 64
 
+-- the difference of two words, modulo 2^64
+abbrev pub difference : ℕ → ℕ → ℕ
+difference a b = (a + (2 ^ 64 - b)) % 2 ^ 64
+
 -- a word turned right by n bits: its n low bits become its high ones
 unfoldable pub turnRight : ℕ → ℕ → ℕ
 turnRight n x = x % 2 ^ n * 2 ^ (64 - n) + x / 2 ^ n
@@ -22,4 +26,4 @@ pub record Undoes (A : Addition) : Type 0 where
   pub sum-back : (a b : ℕ) → a < 2 ^ 64 → b < 2 ^ 64 → A .back (A .sum a b) b ≡ a
 
 abbrev pub plain : Addition
-plain = record { sum = plainSum; back = λ a b. (a + (2 ^ 64 - b)) % 2 ^ 64 }
+plain = record { sum = plainSum; back = difference }

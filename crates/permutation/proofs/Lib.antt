@@ -2,3 +2,5 @@
 pub mod State
 pub mod Quads
 pub mod Undo
+pub mod SideBySide
+pub mod Along

@@ -1,5 +1,5 @@
 -- The table of quads: each quad has four distinct positions of the state. Assumes nothing.
-use mathlib.Core.Path.{_≡_, sym, ap, _∙_}
+use mathlib.Core.Path.{_≡_, refl, sym, ap, _∙_, subst}
 use mathlib.Core.Logic.{_≢_}
 use Prim.Native.Nat.{ℕ, zero, suc, _+_, _≤_, _<_}
 use native.Mathlib.Numerals.{add-one}
@@ -11,9 +11,9 @@ use lib.Seq.{drop-cons}
 use Rattle.profile.specs.declared.Quad.{Quad}
 use Rattle.profile.specs.Profile.{quads}
 use Rattle.mixer.specs.G.{G}
-use Rattle.mixer.specs.Word.{plainSum}
-use Rattle.permutation.specs.Round.{applyAt}
+use Rattle.permutation.specs.Round.{applyAt, round}
 
+-- four positions of the state, each another
 pub record Spread (q : Quad) : Type 0 where
   pub inside : (q .0 < 16) × (q .1 < 16) × (q .2 < 16) × (q .3 < 16)
   pub apart : (q .0 ≢ q .1) × (q .0 ≢ q .2) × (q .0 ≢ q .3) × (q .1 ≢ q .2) × (q .1 ≢ q .3) × (q .2 ≢ q .3)
@@ -33,18 +33,14 @@ unfolding quads
 quads-spread =
     (omega arith, (omega arith, (omega arith, (omega arith, (omega arith, (omega arith, (omega arith, (omega arith, tt))))))))
 
-pub quad-spread : (table : List Quad) (d : Quad) (n : ℕ) → table ≡ quads → n < 8 → Spread (getD table n d)
-unfolding quads
-quad-spread table d n e h = rw e (each-at Spread quads d quads-spread n h)
+-- no position of the one is one of the other
+pub record Disjoint (p q : Quad) : Type 0 where
+  pub first : (p .0 ≢ q .0) × (p .0 ≢ q .1) × (p .0 ≢ q .2) × (p .0 ≢ q .3)
+  pub second : (p .1 ≢ q .0) × (p .1 ≢ q .1) × (p .1 ≢ q .2) × (p .1 ≢ q .3)
+  pub third : (p .2 ≢ q .0) × (p .2 ≢ q .1) × (p .2 ≢ q .2) × (p .2 ≢ q .3)
+  pub fourth : (p .3 ≢ q .0) × (p .3 ≢ q .1) × (p .3 ≢ q .2) × (p .3 ≢ q .3)
 
--- a loop over a table: one quad more, and the end
-module _ (f : List ℕ → Quad → List ℕ) (qs : List Quad) (n : ℕ) (s : List ℕ) where
-  pub fold-step : (r t : List ℕ) (d : Quad) → n < length qs → t ≡ f s (getD qs n d) → foldl f s (drop n qs) ≡ r → foldl f t (drop (n + 1) qs) ≡ r
-  fold-step r t d h e inv = rw (add-one, e) (ap (foldl f s) (sym (drop-cons qs n d h)) ∙ inv)
-
-  pub fold-end : length qs ≤ n → foldl f s (drop n qs) ≡ s
-  fold-end h = ap (foldl f s) (drop-of-length-le qs {i = n} h)
-
--- G on a quad, in the order that a fold over the table wants
-abbrev pub step : List ℕ → Quad → List ℕ
-step s q = applyAt (G plainSum) q s
+-- every quad of a list shares no position with a later one
+abbrev pub SideBySide : List Quad → Type 0
+SideBySide [] = Unit {0}
+SideBySide (q ∷ qs) = Spread q × Each (Disjoint q) qs × SideBySide qs

@@ -31,12 +31,12 @@ putWords-state q w hw hs =
 module _ (q : Quad) (ij : q .0 ≢ q .1) (ik : q .0 ≢ q .2) (il : q .0 ≢ q .3) (jk : q .1 ≢ q .2) (jl : q .1 ≢ q .3) (kl : q .2 ≢ q .3)
     (w : Words) (s : List ℕ) where
   -- what was put is read back
-  wordsAt-put : q .0 < length s → q .1 < length s → q .2 < length s → q .3 < length s → wordsAt q (putWords q w s) ≡ w
+  pub wordsAt-put : q .0 < length s → q .1 < length s → q .2 < length s → q .3 < length s → wordsAt q (putWords q w s) ≡ w
   unfolding wordsAt putWords
   wordsAt-put hi hj hk hl = simp (getD-set-other, getD-set-same, lt-length-set)
 
   -- a second put covers the first: each of its stores moves inward to the store that it covers
-  put-put : (v : Words) → putWords q v (putWords q w s) ≡ putWords q v s
+  pub put-put : (v : Words) → putWords q v (putWords q w s) ≡ putWords q v s
   unfolding putWords
   put-put v =
       let i = q .0 in let j = q .1 in let k = q .2 in let l = q .3 in

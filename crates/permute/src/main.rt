@@ -1,5 +1,6 @@
 // Prints a full call of the permutation, a word to a line in hexadecimal: of the state that standard
 // input holds as sixteen little-endian words or, where the input is empty, of the starting state.
+use mixer::Mixer;
 use profile::Profile;
 
 const STATE_BYTES: usize = 128;
@@ -27,6 +28,6 @@ fn main() {
         );
         return;
     }
-    sponge::duplex::full_call(&mut s);
+    sponge::duplex::full_call(&mut s, Mixer::Plain);
     print_state(&s);
 }

@@ -32,12 +32,13 @@ fn record_accepted(
     requires { ⌜ recordedNumber p (input (now password) (now salt) (length (now key))) (now matrix) (now «record») ≡ 0 ⌝ }
     ensures { λ r. ⌜ «recorded-contract» p (input (now (password .entry)) (now (salt .entry)) (length (now (key .entry)))) (now (key .entry)) (now (matrix .entry)) (now («record» .entry)) (now (key .exit)) (now (matrix .exit)) (now («record» .exit)) (r .costs) (r .state) ⌝ }
 {
+    let mixer = p.mixer;
     let mut s = [0; 16];
     let ran = run(&mut s, password, salt, key.len(), p, matrix, record);
     let state = s;
     let full = finish(&mut s, ran, matrix, p);
-    let between = squeeze(&mut s, key);
-    let calls = clear_run(&mut s, between, p.rounds);
+    let between = squeeze(&mut s, key, mixer);
+    let calls = clear_run(&mut s, between, p.rounds, mixer);
     let costs = spent(full + calls, ran.reduced, p);
     Recording { costs, state }
 }

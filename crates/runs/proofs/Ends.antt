@@ -6,7 +6,7 @@ use native.Mathlib.Omega.{arith}
 use mathlib.Core.List.{List}
 use lib.ListN.{length}
 use Rattle.lists.specs.Zip.{cleared}
-use Rattle.mixer.specs.Word.{plainSum}
+use Rattle.mixer.specs.Mixers.{sumOf}
 use Rattle.settings.specs.Settings.{settings}
 use Rattle.settings.specs.Sizes.{matrixWords}
 use Rattle.settings.specs.declared.Parameters.{Parameters}
@@ -57,9 +57,9 @@ module _ {p : Parameters} {x : Input} {m xs s′ m′ xs′ : List ℕ} {r : Ran
 
 -- ---- the key
 pub key-after : (p : Parameters) (x : Input) (m : List ℕ) {s : List ℕ} → s ≡ finalState (settings p) (walkEnd (settings p) x m)
-    → keyBytes plainSum (x .keyLength) s ≡ keyOf (settings p) x m
+    → keyBytes (sumOf (p .mixer)) (x .keyLength) s ≡ keyOf (settings p) x m
 unfolding keyOf
-key-after p x m e = ap (keyBytes plainSum (x .keyLength)) e
+key-after p x m e = ap (keyBytes (sumOf (p .mixer)) (x .keyLength)) e
 
 -- ---- the costs: the full calls up to the last cell's, those between pieces of the key, and the reduced ones
 module _ (l : Lengths) (p : Parameters) (words : ℕ) (h : Accepted (plainChecks l p words)) {full between reduced : ℕ}

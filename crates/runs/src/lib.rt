@@ -69,6 +69,11 @@ pub fn finish(s: &mut [u64; 16], ran: Ran, m: &[u64], p: Parameters) -> u64
     requires { ⌜ (1 ≤ p .columns) × (ran .row0 .0 < p .rows) × (ran .row1 .0 < p .rows) × (matrixWords (settings p) ≤ length (now m)) × (ran .full < 2 ^ 32) ⌝ }
     ensures { λ r. ⌜ (r ≡ ran .full + 1) × (now (s .exit) ≡ finalState (settings p) (walk (work (now (s .entry)) (now (m .entry))) (ran .row0 .0) (ran .row1 .0))) ⌝ }
 {
-    absorb_cell(s, cell(m, RowStart::of(ran.row0, p.columns), Column(0)));
+    let mixer = p.mixer;
+    absorb_cell(
+        s,
+        cell(m, RowStart::of(ran.row0, p.columns), Column(0)),
+        mixer,
+    );
     ran.full + 1
 }

@@ -1,6 +1,8 @@
--- What a derivation goes by: what the caller gives, and the addition of G, which document 01 fixes.
+-- What a derivation goes by.
 use Prim.Native.Nat.{ℕ}
-use Rattle.mixer.specs.Word.{Addition, plain}
+use Rattle.mixer.specs.Word.{Addition}
+use Rattle.mixer.specs.Mixers.{additionOf}
+use Rattle.mixer.specs.declared.Mixer.the-variants.{Plain}
 use Rattle.profile.specs.Profile.{usualRounds, usualRotation}
 use Rattle.settings.specs.declared.Parameters.{Parameters}
 use Rattle.settings.specs.declared.StoredParameters.{StoredParameters}
@@ -18,9 +20,9 @@ pub record Settings : Type 0 where
 -- the settings of a call
 abbrev pub settings : Parameters → Settings
 settings p =
-    record { time = p .time; rows = p .rows; columns = p .columns; rounds = p .rounds; rotation = p .rotation; addition = plain }
+    record { time = p .time; rows = p .rows; columns = p .columns; rounds = p .rounds; rotation = p .rotation; addition = additionOf (p .mixer) }
 
 -- T, R and C with the usual choice of the others
 abbrev pub usual : StoredParameters → Parameters
 usual p =
-    record { time = p .time; rows = p .rows; columns = p .columns; rounds = usualRounds; rotation = usualRotation }
+    record { time = p .time; rows = p .rows; columns = p .columns; rounds = usualRounds; rotation = usualRotation; mixer = Plain }

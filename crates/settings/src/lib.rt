@@ -1,17 +1,19 @@
-// What a caller gives as numbers: T, R, C, ρ and ω, and the lengths; and how many words of the matrix are used.
+// What a caller gives: T, R, C, ρ, ω and the mixer, and the lengths; and how many words of the matrix are used.
+use mixer::Mixer;
 use profile::Profile;
 ghost use mathlib.Core.Path.{_≡_};
 ghost use Prim.Native.Nat.{_<_, _^_};
 ghost use Rattle.settings.specs.Settings.{settings, usual};
 ghost use Rattle.settings.specs.Sizes.{matrixWords};
 
-// T, R and C; ρ, the rounds of a reduced call, and ω, by how many words rot turns a cell.
+// T, R and C; ρ, the rounds of a reduced call; ω, by how many words rot turns a cell; and the mixer.
 pub struct Parameters {
     pub time: usize,
     pub rows: usize,
     pub columns: usize,
     pub rounds: usize,
     pub rotation: usize,
+    pub mixer: Mixer,
 }
 
 // T, R and C alone, as they are kept of an operator. The others are then the usual ones.
@@ -31,6 +33,7 @@ impl Parameters {
             columns: p.columns,
             rounds: Profile::USUAL_ROUNDS,
             rotation: Profile::USUAL_ROTATION,
+            mixer: Mixer::Plain,
         }
     }
 }

@@ -31,7 +31,7 @@ fn fill_row(s: &mut [u64; 16], m: &mut [u64], p: Parameters) -> u64
     let mut mirror = p.columns;
     while col < p.columns {
         mirror -= 1;
-        fill_column(s, m, row0, Column(mirror), p.rounds);
+        fill_column(s, m, row0, Column(mirror), p);
         calls += 1;
         col += 1;
     }

@@ -22,12 +22,14 @@ fn duplex_setup(s: &mut [u64; 16], m: &[u64], rows: Starts, col: Column, p: Para
     requires { ⌜ (col .0 < p .columns) × Within (p .columns) rows (length (now m)) ⌝ }
     ensures { λ _. ⌜ AtRows (p .columns) rows (λ r. now (s .exit) ≡ duplexed (settings p) (setupCells (settings p) r (col .0) (now (m .entry))) (now (s .entry))) ⌝ }
 {
+    let mixer = p.mixer;
     duplex_sum3(
         s,
         cell(m, rows.row1, col),
         cell(m, rows.prev0, col),
         cell(m, rows.prev1, col),
         p.rounds,
+        mixer,
     );
 }
 

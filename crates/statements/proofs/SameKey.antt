@@ -7,7 +7,7 @@ use native.Mathlib.Omega.{arith}
 use mathlib.Core.Bool.{Bool, true, false}
 use mathlib.Core.List.{List}
 use lib.ListN.{length, getD}
-use Rattle.mixer.proofs.WordLaws.{plain-undoes}
+use Rattle.mixer.proofs.Additions.{undoes}
 use Rattle.settings.specs.Settings.{settings}
 use Rattle.settings.specs.Sizes.{matrixWords}
 use Rattle.settings.specs.declared.Parameters.{Parameters}
@@ -58,7 +58,7 @@ module _ (p : Parameters) (x : Input) where
     pub same-key : (key₁ matrix₁ key₂ matrix₂ : List ℕ) → KeyOver p x key₁ matrix₁ → KeyOver p x key₂ matrix₂ → key₁ ≡ key₂
     same-key key₁ matrix₁ key₂ matrix₂ a b =
         a .is
-        ∙ key-of-any-matrix (settings p) plain-undoes (a .rows-least) (a .columns-pos) x password-bytes salt-bytes matrix₁ matrix₂ (a .room) (b .room)
+        ∙ key-of-any-matrix (settings p) (undoes (p .mixer)) (a .rows-least) (a .columns-pos) x password-bytes salt-bytes matrix₁ matrix₂ (a .room) (b .room)
         ∙ sym (b .is)
 
     -- yes exactly where the stored bytes are the key, over whatever memory the key was made

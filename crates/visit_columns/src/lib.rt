@@ -23,6 +23,7 @@ fn duplex_visit(s: &mut [u64; 16], m: &[u64], rows: Starts, col: Column, at: Pic
     requires { ⌜ (col .0 < p .columns) × (at .col0 .0 < p .columns) × (at .col1 .0 < p .columns) × Within (p .columns) rows (length (now m)) ⌝ }
     ensures { λ _. ⌜ AtRows (p .columns) rows (λ r. now (s .exit) ≡ duplexed (settings p) (visitCells (settings p) r (col .0) at (now (m .entry))) (now (s .entry))) ⌝ }
 {
+    let mixer = p.mixer;
     duplex_sum4(
         s,
         cell(m, rows.row0, col),
@@ -30,6 +31,7 @@ fn duplex_visit(s: &mut [u64; 16], m: &[u64], rows: Starts, col: Column, at: Pic
         cell(m, rows.prev0, at.col0),
         cell(m, rows.prev1, at.col1),
         p.rounds,
+        mixer,
     );
 }
 

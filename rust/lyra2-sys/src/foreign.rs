@@ -1,7 +1,7 @@
 //! The functions of the crate `derivation_export` under their C names.
 //!
 //! A Rattle slice passes as a pointer and a number of elements. A reference to an array or a number passes as
-//! a pointer.
+//! a pointer, and a `bool` as C's.
 
 extern "C" {
     pub fn lyra2_derive(
@@ -14,6 +14,7 @@ extern "C" {
         columns: usize,
         rounds: usize,
         rotation: usize,
+        mixer: bool,
         key: *mut u8,
         key_len: usize,
         matrix: *mut u64,
@@ -31,6 +32,7 @@ extern "C" {
         columns: usize,
         rounds: usize,
         rotation: usize,
+        mixer: bool,
         key: *mut u8,
         key_len: usize,
         matrix: *mut u64,
@@ -51,6 +53,7 @@ extern "C" {
         columns: usize,
         rounds: usize,
         rotation: usize,
+        mixer: bool,
         stored: *const u8,
         stored_len: usize,
         matrix: *mut u64,

@@ -39,6 +39,8 @@ pub struct Input<'a> {
     pub rounds: usize,
     /// The words that the rotation goes by, ω.
     pub rotation: usize,
+    /// Whether the mixer is BlaMka; else it is the plain one.
+    pub blamka: bool,
 }
 
 /// The seven numbers that the cost question is about.
@@ -75,6 +77,7 @@ pub fn derive(input: Input, key: &mut [u8], matrix: &mut [u64], counts: &mut Cou
             input.columns,
             input.rounds,
             input.rotation,
+            input.blamka,
             key.as_mut_ptr(),
             key.len(),
             matrix.as_mut_ptr(),
@@ -107,6 +110,7 @@ pub fn derive_recorded(
             input.columns,
             input.rounds,
             input.rotation,
+            input.blamka,
             key.as_mut_ptr(),
             key.len(),
             matrix.as_mut_ptr(),
@@ -140,6 +144,7 @@ pub fn check(
             input.columns,
             input.rounds,
             input.rotation,
+            input.blamka,
             stored.as_ptr(),
             stored.len(),
             matrix.as_mut_ptr(),

@@ -2,7 +2,8 @@
 
 mod foreign {
     extern "C" {
-        pub fn lyra2_sponge_rounds(state: *mut u64, n: usize);
+        pub fn lyra2_sponge_g(words: *mut u64, mixer: bool);
+        pub fn lyra2_sponge_rounds(state: *mut u64, n: usize, mixer: bool);
     }
 }
 
@@ -21,9 +22,15 @@ pub const STARTING_WORDS: [u64; 8] = [
     0x5be0cd19137e2179,
 ];
 
+/// G on a, b, c and d; `blamka` says whether the mixer is BlaMka, else it is the plain one.
+pub fn g(words: &mut [u64; 4], blamka: bool) {
+    // SAFETY: the pointer is to four words that nobody else holds while the call runs.
+    unsafe { foreign::lyra2_sponge_g(words.as_mut_ptr(), blamka) }
+}
+
 /// Runs `n` rounds on the state. The Rattle function takes `&mut [u64; 16]`, which passes as a pointer,
 /// and asks for nothing.
-pub fn rounds(state: &mut State, n: usize) {
+pub fn rounds(state: &mut State, n: usize, blamka: bool) {
     // SAFETY: the pointer is to sixteen words that nobody else holds while the call runs.
-    unsafe { foreign::lyra2_sponge_rounds(state.as_mut_ptr(), n) }
+    unsafe { foreign::lyra2_sponge_rounds(state.as_mut_ptr(), n, blamka) }
 }

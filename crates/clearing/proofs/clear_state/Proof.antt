@@ -17,5 +17,5 @@ zero-word e = ap (λ (l : List ℕ). getD l 0 0) (e ∙ round-zeros plainSum ref
 pub clear-state-spec : {M : Type 1} → statement M
 clear-state-spec =
     tie.close
-    (tie.spec (omega arith) (omega arith) (λ c. omega (arith, zero-word (c .before .round .ensures)))
-    (λ c. (omega (arith, zero-word (c .before .round .ensures)), c .before .round .ensures ∙ round-zeros plainSum refl)))
+    (tie.spec (omega arith) (omega arith) (λ c. omega (arith, zero-word (c .before .plain-round .ensures)))
+    (λ c. (omega (arith, zero-word (c .before .plain-round .ensures)), c .before .plain-round .ensures ∙ round-zeros plainSum refl)))

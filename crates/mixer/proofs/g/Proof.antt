@@ -1,7 +1,6 @@
 -- `g` meets its contract: one half after the other. Assumes nothing.
 use mathlib.Core.Path.{ap, _∙_}
 use native.Mathlib.Omega.{arith}
-use Rattle.mixer.specs.Word.{plainSum}
 use Rattle.mixer.specs.G.{G, halfG}
 use Rattle.mixer.proofs.g.Statement.{statement}
 use Rattle.mixer.proofs.g.Tie as tie
@@ -10,4 +9,4 @@ pub g-spec : {M : Type 1} → statement M
 unfolding G
 g-spec =
     tie.close
-    (tie.spec (omega arith) (omega arith) (λ c. c .half-g2 .ensures ∙ ap (halfG plainSum 16 63) (c .before .half-g .ensures)))
+    (tie.spec (omega arith) (omega arith) (λ c. c .half-g2 .ensures ∙ ap (halfG _ 16 63) (c .before .half-g .ensures)))

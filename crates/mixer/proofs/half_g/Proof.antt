@@ -1,6 +1,5 @@
 -- `half_g` meets its contract: each call makes one of the four steps. Assumes nothing.
 use native.Mathlib.Omega.{arith}
-use Rattle.mixer.specs.Word.{plainSum}
 use Rattle.mixer.proofs.GLaws.{halfG-steps}
 use Rattle.mixer.proofs.half_g.Statement.{statement}
 use Rattle.mixer.proofs.half_g.Tie as tie
@@ -11,5 +10,5 @@ half-g-spec =
     (tie.spec (omega arith) (omega arith) (omega arith) (omega arith)
     (λ c.
     let third = c .before .before in
-    halfG-steps plainSum _ _ _ _ _ _ _ (third .before .before .before .wrapping-add-u64 .ensures) (third .before .turn-right .ensures)
-    (third .wrapping-add-u642 .ensures) (c .turn-right2 .ensures)))
+    halfG-steps _ _ _ _ _ _ _ _ (third .before .before .before .add .ensures) (third .before .turn-right .ensures)
+    (third .add2 .ensures) (c .turn-right2 .ensures)))

@@ -9,14 +9,15 @@ use Rattle.recorded.proofs.record_accepted.Tie as tie
 
 returns : tie.Need-returns
 returns c =
-    let none = c .before .before .before .before .before .before .before .before .before .before .before .before .before .before .before .before .before .before .before .before .before .before .before .before .pre in
+    let start = c .before .before .before .before .before .before .before .before .before .before .before .before .before .before .before .before .before .before .before .before .before .before .before .before in
+    let none = start .pre in
     let run = c .before .before .before .before .before .before .before .before .before .before .before .before .before .before .before .run .ensures in
     let last = c .before .before .before .before .before .before .before .before .finish .ensures in
     let key = c .before .before .before .before .before .squeeze .ensures in
     record {
       answer = cost-yes _ _ none (costs-after _ _ _ (recorded-accepted _ _ _ _ none) (full-with-last run (last .0)) (c .before .clear-run .ensures .0 ∙ key .2) (run .reduced) (c .spent .ensures));
       state-is = answered-yes _ _ none (state-after run);
-      key-after = answered-yes _ _ none (key .0 ∙ key-after _ _ _ (finished run (last .1)));
+      key-after = answered-yes _ _ none (key .0 ∙ key-after (start .args .p) _ _ (finished run (last .1)));
       matrix-after = answered-yes _ _ none (matrix-after run);
       visited-after = answered-yes _ _ none (run .noted);
     }

@@ -6,7 +6,7 @@ use denote.Ref.{now}
 use Rattle.places.proofs.PlaceLaws.{start-place}
 use Rattle.matrix.specs.Cells.{cellFrom}
 use Rattle.columns.proofs.RowLaws.{row-before}
-use Rattle.mixer.specs.Word.{plainSum}
+use Rattle.mixer.specs.Mixers.{sumOf}
 use Rattle.profile.specs.Profile.{fullRounds}
 use Rattle.sponge.specs.Sponge.{absorb}
 use Rattle.derivation.specs.Derivation.{finalState}
@@ -30,7 +30,7 @@ unfolding finalState
 returns c =
     let a = c .before .before .before .before .before .before .args in
     let at = start-place (a .p .columns) (a .ran .row0 .0) _ (c .before .before .before .of .ensures) 0 in
-    (refl, c .before .absorb-cell .ensures ∙ (λ i. absorb plainSum fullRounds ((c .before .before .cell .ensures .0 ∙ ap (λ (n : ℕ). cellFrom n (now (a .m))) at) i) (now (a .s))))
+    (refl, c .before .absorb-cell .ensures ∙ (λ i. absorb (sumOf (a .p .mixer)) fullRounds ((c .before .before .cell .ensures .0 ∙ ap (λ (n : ℕ). cellFrom n (now (a .m))) at) i) (now (a .s))))
 
 pub finish-spec : {M : Type 1} → statement M
 finish-spec =

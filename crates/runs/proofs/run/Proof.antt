@@ -6,7 +6,7 @@ use native.Mathlib.Omega.{arith}
 use mathlib.Core.List.{List}
 use denote.Ref.{now}
 use Rattle.lists.specs.Zip.{putInto}
-use Rattle.mixer.specs.Word.{plainSum}
+use Rattle.mixer.specs.Mixers.{sumOf}
 use Rattle.settings.specs.Settings.{settings}
 use Rattle.settings.specs.Sizes.{visitCount}
 use Rattle.settings.specs.declared.Parameters.{Parameters}
@@ -48,7 +48,7 @@ unfolding plainChecks costChecks
 wander-requires c κs =
     let start = c .before .before .before .before .before .before .before .before .before .before .before .before .before .before .before .before .before in
     let up = c .before .before .before .before .before .before .before .set-up in
-    let f = few _ _ _ (start .pre) in (
+    let f = few _ (start .args .p) _ (start .pre) in (
       record {
         columns-pos = omega (arith, start .pre);
         prev0-lt = omega (arith, start .pre);
@@ -68,7 +68,7 @@ returns c =
     let i = c .before .before .before .before .before .before .before .before .before .before .before .before .before .before .before .before .before .before .before .absorb-input .ensures in
     let up = c .before .before .before .before .before .before .before .before .before .before .before .before .before .before .before .before .set-up .ensures in
     let v = c .before .before .before .before .before .before .before .before .wander .ensures in
-    let from = i .0 ∙ ap (absorbInput plainSum (x .password) (x .salt) (numbers x S)) (c .before .before .before .before .before .before .before .before .before .before .before .before .before .before .before .before .before .before .before .before .before .start .ensures) in
+    let from = i .0 ∙ ap (absorbInput (sumOf (a .p .mixer)) (x .password) (x .salt) (numbers x S)) (c .before .before .before .before .before .before .before .before .before .before .before .before .before .before .before .before .before .before .before .before .before .start .ensures) in
     let e =
     ap₂ (λ (w : Work) (q : ℕ). walk w (a .p .rows - 1) q) (up .2 ∙ ap (λ (s : List ℕ). setup S (work s (now (a .m)))) from) (up .0) in
     record {
@@ -84,8 +84,8 @@ pub run-spec : {M : Type 1} → statement M
 unfolding plainChecks costChecks
 run-spec =
     tie.close
-    (tie.spec (omega arith) (omega arith) (omega arith) (omega arith) (λ c. omega (arith, few _ _ _ (c .before .before .before .before .before .before .before .before .before .before .before .before .before .before .before .before .pre) .visits)) wander-requires
+    (tie.spec (omega arith) (omega arith) (omega arith) (omega arith) (λ c. omega (arith, few _ (c .before .before .before .before .before .before .before .before .before .before .before .before .before .before .before .before .args .p) _ (c .before .before .before .before .before .before .before .before .before .before .before .before .before .before .before .before .pre) .visits)) wander-requires
     (λ c.
-    let f = few _ _ _ (c .before .before .before .before .before .before .before .before .before .before .before .before .before .before .before .before .before .before .before .before .before .before .before .before .before .before .pre) in
+    let f = few _ (c .before .before .before .before .before .before .before .before .before .before .before .before .before .before .before .before .before .before .before .before .before .before .before .before .before .before .args .p) _ (c .before .before .before .before .before .before .before .before .before .before .before .before .before .before .before .before .before .before .before .before .before .before .before .before .before .before .pre) in
     omega (arith, f .cells, f .calls, c .before .before .before .before .before .before .before .before .before .before .before .before .before .before .before .before .set-up .ensures .1, c .before .before .before .before .before .before .before .before .wander .ensures .counted))
     (omega arith) (omega arith) returns)

@@ -1,0 +1,2 @@
+-- The four words of G as a list.
+pub mod Four
