@@ -19,12 +19,12 @@ fn round(s: &mut [u64; 16], mixer: Mixer)
 }
 
 // Round by round in calls: `plain_round` keeps no word of the state on the stack, and `plain_rounds` does.
-fn round_by_round(s: &mut [u64; 16], n: usize, mixer: Mixer)
-    ensures { λ _. ⌜ now (s .exit) ≡ rounds (sumOf mixer) n (now (s .entry)) ⌝ }
+fn round_by_round(state: &mut [u64; 16], n: usize, mixer: Mixer)
+    ensures { λ _. ⌜ now (state .exit) ≡ rounds (sumOf mixer) n (now (state .entry)) ⌝ }
 {
     let mut k = 0;
     while k < n {
-        round(s, mixer);
+        round(state, mixer);
         k += 1;
     }
 }

@@ -10,9 +10,9 @@ use Rattle.mixer.specs.declared.Mixer.the-variants.{Plain, BlaMka}
 use Rattle.mixer.proofs.WordLaws.{plain-undoes}
 
 -- the product of two halves is a word
-pub halves-product : (a b : ℕ) → low a * low b < 2 ^ 64
-halves-product a b =
-    let most : low a * low b ≤ (2 ^ 32 - 1) * (2 ^ 32 - 1) = mul-le-mul {n₂ = 2 ^ 32 - 1} {m₂ = 2 ^ 32 - 1} (omega arith) (omega arith) in
+pub halves-product : {x y : ℕ} → x < 2 ^ 32 → y < 2 ^ 32 → x * y < 2 ^ 64
+halves-product {x} {y} hx hy =
+    let most : x * y ≤ (2 ^ 32 - 1) * (2 ^ 32 - 1) = mul-le-mul {n₂ = 2 ^ 32 - 1} {m₂ = 2 ^ 32 - 1} (omega arith) (omega arith) in
     omega (arith, most)
 
 -- its double, added last

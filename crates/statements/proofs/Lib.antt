@@ -1,5 +1,6 @@
 -- Statements about the whole base, and their proofs.
 pub mod Cases
+pub mod BlaMkaCases
 pub mod Independence
 pub mod SameKey
 pub mod NothingLeft

@@ -5,4 +5,4 @@ use Rattle.mixer.proofs.doubled_product.Statement.{statement}
 use Rattle.mixer.proofs.doubled_product.Tie as tie
 
 pub doubled-product-spec : {M : Type 1} → statement M
-doubled-product-spec = tie.close (tie.spec (λ c. omega (arith, halves-product (c .args .a) (c .args .b))) (omega arith) (omega arith))
+doubled-product-spec = tie.close (tie.spec (λ c. record { fits = halves-product (omega arith) (omega arith) }) (omega arith) (omega arith))
