@@ -12,7 +12,7 @@ pub mod lines;
 
 use lyra2_reference::vectors::Subject;
 use lyra2_reference::{
-    Checked, Counts, Inputs, LineParts, LineValues, Parameters, Recorded, Refusal,
+    Checked, Counts, Inputs, LineParts, LineValues, Mixer, Parameters, Recorded, Refusal,
 };
 
 /// What the places for an answer hold before a call; no accepted call gives such a number.
@@ -36,6 +36,7 @@ pub fn input<'a>(inputs: &Inputs<'a>) -> lyra2_sys::Input<'a> {
         columns: size(inputs.c),
         rounds: size(inputs.settings.rho),
         rotation: size(inputs.settings.omega),
+        blamka: inputs.settings.mixer == Mixer::BlaMka,
     }
 }
 

@@ -107,7 +107,7 @@ impl Faulty {
     }
 
     /// The settings that the faulty program goes by.
-    fn settings(&self, Settings { rho, omega }: Settings) -> Settings {
+    fn settings(&self, Settings { rho, omega, mixer }: Settings) -> Settings {
         let rho = match (self.0, rho) {
             (UsualRounds, _) | (NoRoundAsOne, 0) => 1,
             (Rounds13As12, 13..) => 12,
@@ -123,7 +123,7 @@ impl Faulty {
             (RotationModulo12, _) => omega % 12,
             _ => omega,
         };
-        Settings { rho, omega }
+        Settings { rho, omega, mixer }
     }
 
     /// The answer where a check of the settings is made too early or too late.

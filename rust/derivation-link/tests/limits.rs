@@ -310,7 +310,11 @@ fn settings_without_visits() {
         assert_eq!(numbers(call), [14, 14, 14, 0]);
     }
     for (rho, omega) in [(1, 1), (1, 11), (12, 1), (12, 11)] {
-        let settings = Settings { rho, omega };
+        let settings = Settings {
+            rho,
+            omega,
+            ..Settings::USUAL
+        };
         for (r, c) in [(3, 1), (4, 2), (40, 7)] {
             assert_fits_exactly(Call {
                 settings,

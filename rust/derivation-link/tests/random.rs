@@ -40,7 +40,7 @@ fn every_length_setting_and_refusal_is_met_and_the_two_programs_agree() {
         met.passwords.insert(compared.sizes.password_len);
         met.salts.insert(compared.sizes.salt_len);
         met.times.insert(compared.sizes.t);
-        let Settings { rho, omega } = compared.settings;
+        let Settings { rho, omega, .. } = compared.settings;
         met.settings.insert((rho, omega));
     }
     assert_eq!(met.keys, (1..=1024).collect());

@@ -6,8 +6,10 @@
 use derivation_link::Proved;
 use lyra2_reference::refusal::{ROTATIONS, ROUNDS};
 use lyra2_reference::vectors::random::Random;
-use lyra2_reference::vectors::{run, Answer, Bytes, Case, Coverage, Given, Question, Reference};
-use lyra2_reference::Settings;
+use lyra2_reference::vectors::{
+    run, Answer, Bytes, Case, Coverage, Given, NamedSettings, Question, Reference,
+};
+use lyra2_reference::{Mixer, Settings};
 use std::collections::BTreeSet;
 
 /// T, R and C: the smallest matrix, some that reach several windows of the Setup walk, and Setup alone.
@@ -29,7 +31,7 @@ fn question(random: &mut Random, (t, r, c): (u64, u64, u64), settings: Settings)
         t,
         r,
         c,
-        settings: Some(settings),
+        settings: Some(NamedSettings::from(settings)),
         matrix_words: 0,
     };
     let key_len = random.between(16, 200);
@@ -62,7 +64,12 @@ fn every_pair_with_several_shapes() {
     for rho in ROUNDS {
         for omega in ROTATIONS {
             for shape in SHAPES {
-                assert_agree(question(&mut random, shape, Settings { rho, omega }));
+                let settings = Settings {
+                    rho,
+                    omega,
+                    mixer: Mixer::Plain,
+                };
+                assert_agree(question(&mut random, shape, settings));
             }
         }
     }
@@ -74,7 +81,11 @@ fn every_pair_has_a_key_of_its_own() {
     let mut keys = BTreeSet::new();
     for rho in ROUNDS {
         for omega in ROTATIONS {
-            let settings = Settings { rho, omega };
+            let settings = Settings {
+                rho,
+                omega,
+                mixer: Mixer::Plain,
+            };
             let question = question(&mut Random::new(106), (1, 5, 3), settings);
             let Answer::Recorded { key, .. } = assert_agree(question) else {
                 continue;

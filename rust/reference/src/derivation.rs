@@ -110,10 +110,10 @@ fn run(
     lent: &mut [u64],
     note: &mut impl FnMut(usize),
 ) -> Recorded {
-    let Settings { rho, omega } = inputs.settings;
+    let Settings { rho, omega, mixer } = inputs.settings;
     let omega = omega as usize;
     let parameters = inputs.parameters(key.len());
-    let mut sponge = Sponge::start(rho);
+    let mut sponge = Sponge::start(rho, mixer);
     let input = padded_input(inputs.password, inputs.salt, &parameters);
     absorb_input(&mut sponge, &input);
 

@@ -6,7 +6,7 @@
 //!
 //! | file | lines of Algorithm 2 |
 //! |---|---|
-//! | `settings` | those of the parameters ρ and ω |
+//! | `settings` | those of the parameters ρ and ω, and the choice of the permutation |
 //! | `input` | 1 to 3 |
 //! | `walk` | 4, 5 and 16 to 20 |
 //! | `setup` | 6 to 15 |
@@ -53,6 +53,6 @@ pub use derivation::{check, derive, derive_recorded, Checked, Inputs, Recorded};
 pub use input::Parameters;
 pub use line::{line_read, line_write, LineParts, LineValues};
 pub use refusal::Refusal;
-pub use settings::Settings;
+pub use settings::{Mixer, Settings};
 pub use sponge::Counts;
 pub use walk::{walk, walk_program};

@@ -1,4 +1,6 @@
-//! The sponge: BLAKE2b's permutation without message words, and the counted calls made of it.
+//! The sponge: BLAKE2b's permutation without message words, or BlaMka's, and the counted calls made of it.
+
+use crate::settings::Mixer;
 
 /// Words of the state.
 pub const STATE_WORDS: usize = 16;
@@ -38,23 +40,43 @@ pub type State = [u64; STATE_WORDS];
 /// The contents of a cell, and also the sponge's output (document 01 calls it rand).
 pub type Cell = [u64; CELL_WORDS];
 
-/// BLAKE2b's G on four words, with no message words.
-pub fn g(mut a: u64, mut b: u64, mut c: u64, mut d: u64) -> [u64; 4] {
-    a = a.wrapping_add(b);
+/// An addition of G. Carries past bit 63 are dropped, from the doubled product as well.
+pub fn add(a: u64, b: u64, mixer: Mixer) -> u64 {
+    let sum = a.wrapping_add(b);
+    match mixer {
+        Mixer::Plain => sum,
+        Mixer::BlaMka => {
+            let product = low_half(a) * low_half(b);
+            sum.wrapping_add(product).wrapping_add(product)
+        }
+    }
+}
+
+/// The low 32 bits; the product of two such numbers has room in a word.
+fn low_half(word: u64) -> u64 {
+    word & 0xffff_ffff
+}
+
+/// BLAKE2b's G on four words, with no message words and with the additions of the mixer.
+pub fn g([mut a, mut b, mut c, mut d]: [u64; 4], mixer: Mixer) -> [u64; 4] {
+    a = add(a, b, mixer);
     d = (d ^ a).rotate_right(32);
-    c = c.wrapping_add(d);
+    c = add(c, d, mixer);
     b = (b ^ c).rotate_right(24);
-    a = a.wrapping_add(b);
+    a = add(a, b, mixer);
     d = (d ^ a).rotate_right(16);
-    c = c.wrapping_add(d);
+    c = add(c, d, mixer);
     b = (b ^ c).rotate_right(63);
     [a, b, c, d]
 }
 
 /// One round of the permutation.
-pub fn round(state: &mut State) {
-    for [i, j, k, l] in QUADS {
-        [state[i], state[j], state[k], state[l]] = g(state[i], state[j], state[k], state[l]);
+pub fn round(state: &mut State, mixer: Mixer) {
+    for quad in QUADS {
+        let mixed = g(quad.map(|place| state[place]), mixer);
+        for (place, word) in quad.into_iter().zip(mixed) {
+            state[place] = word;
+        }
     }
 }
 
@@ -75,12 +97,13 @@ pub struct Sponge {
     state: State,
     counts: Counts,
     reduced_rounds: u64,
+    mixer: Mixer,
 }
 
 impl Sponge {
     /// The starting state: eight zero words, then BLAKE2b's initialization vector. A reduced call will have this
-    /// many rounds, ρ in the pseudocode.
-    pub fn start(reduced_rounds: u64) -> Sponge {
+    /// many rounds, ρ in the pseudocode, and every call will go by this mixer.
+    pub fn start(reduced_rounds: u64, mixer: Mixer) -> Sponge {
         let mut state = [0; STATE_WORDS];
         state[8..].copy_from_slice(&STARTING_WORDS);
         let counts = Counts::default();
@@ -88,6 +111,7 @@ impl Sponge {
             state,
             counts,
             reduced_rounds,
+            mixer,
         }
     }
 
@@ -147,7 +171,7 @@ impl Sponge {
 
     fn permute(&mut self, rounds: u64) {
         for _ in 0..rounds {
-            round(&mut self.state);
+            round(&mut self.state, self.mixer);
             self.counts.rounds += 1;
         }
     }

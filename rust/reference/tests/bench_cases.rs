@@ -4,7 +4,7 @@ use lyra2_reference::input::padded_input;
 use lyra2_reference::sponge::g;
 use lyra2_reference::walk::SetupWalk;
 use lyra2_reference::{
-    check, cost, derive, derive_recorded, walk, Counts, Inputs, Parameters, Settings,
+    check, cost, derive, derive_recorded, walk, Counts, Inputs, Mixer, Parameters, Settings,
 };
 
 const SALT: [u8; 8] = [0xc3; 8];
@@ -33,8 +33,8 @@ fn g_of_one_and_zeros() {
         0x0101000100010000,
         0x0101000000010000,
     ];
-    assert_eq!(g(1, 0, 0, 0), expected);
-    assert_eq!(g(0, 0, 0, 0), [0; 4]);
+    assert_eq!(g([1, 0, 0, 0], Mixer::Plain), expected);
+    assert_eq!(g([0; 4], Mixer::Plain), [0; 4]);
 }
 
 #[test]

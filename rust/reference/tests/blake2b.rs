@@ -4,6 +4,7 @@
 //! can be had from the sponge's rounds. A machine without `b2sum` fails these tests.
 
 use lyra2_reference::sponge::{round, FULL_ROUNDS, STARTING_WORDS};
+use lyra2_reference::Mixer;
 use std::io::Write;
 use std::process::{Command, Stdio};
 
@@ -19,7 +20,7 @@ fn compress(chain: &mut [u64; 8], bytes_so_far: u64, last: bool) {
         state[14] = !state[14];
     }
     for _ in 0..FULL_ROUNDS {
-        round(&mut state);
+        round(&mut state, Mixer::Plain);
     }
     for i in 0..8 {
         chain[i] ^= state[i] ^ state[i + 8];

@@ -1,8 +1,9 @@
 //! The derivations: what they leave in the lent buffers, and how they agree with one another.
 
+use lyra2_reference::input::{absorb_input, padded_input};
 use lyra2_reference::refusal::{ROTATIONS, ROUNDS};
-use lyra2_reference::sponge::round;
-use lyra2_reference::{check, cost, derive, derive_recorded, Inputs, Recorded, Settings};
+use lyra2_reference::sponge::{round, Sponge};
+use lyra2_reference::{check, cost, derive, derive_recorded, Inputs, Mixer, Recorded, Settings};
 
 /// The end of a recorded derivation: its answer and the lent buffers.
 struct End {
@@ -27,7 +28,9 @@ const SHAPES: [(u64, u64, u64); 10] = [
 ];
 
 /// ρ and ω, each at its limits, the usual choice first.
-const SETTINGS: [(u64, u64); 6] = [(1, 2), (1, 1), (1, 11), (12, 1), (12, 11), (3, 6)];
+const PAIRS: [(u64, u64); 6] = [(1, 2), (1, 1), (1, 11), (12, 1), (12, 11), (3, 6)];
+
+const MIXERS: [Mixer; 2] = [Mixer::Plain, Mixer::BlaMka];
 
 fn inputs(shape: (u64, u64, u64)) -> Inputs<'static> {
     inputs_with(shape, Settings::USUAL)
@@ -44,17 +47,22 @@ fn inputs_with((t, r, c): (u64, u64, u64), settings: Settings) -> Inputs<'static
     }
 }
 
+/// A pair of ρ and ω with each mixer.
+fn with_each_mixer((rho, omega): (u64, u64)) -> [Settings; 2] {
+    MIXERS.map(|mixer| Settings { rho, omega, mixer })
+}
+
 /// The inputs of every shape with each of the settings.
 fn all_inputs() -> Vec<Inputs<'static>> {
-    let with_each =
-        |shape| SETTINGS.map(|(rho, omega)| inputs_with(shape, Settings { rho, omega }));
+    let settings = PAIRS.map(with_each_mixer).concat();
+    let with_each = |shape| settings.iter().map(move |&each| inputs_with(shape, each));
     SHAPES.into_iter().flat_map(with_each).collect()
 }
 
 /// Every setting that is accepted.
 fn all_settings() -> Vec<Settings> {
-    let with_each = |rho| ROTATIONS.map(move |omega| Settings { rho, omega });
-    ROUNDS.flat_map(with_each).collect()
+    let pairs = ROUNDS.flat_map(|rho| ROTATIONS.map(move |omega| (rho, omega)));
+    pairs.flat_map(with_each_mixer).collect()
 }
 
 /// Derives into buffers with some words to spare, filled with a number beforehand.
@@ -230,7 +238,7 @@ fn state_matrix_and_record_give_the_key() {
         let mut key = Vec::new();
         while key.len() < 200 {
             for _ in 0..12 {
-                round(&mut state);
+                round(&mut state, inputs.settings.mixer);
             }
             key.extend(state[..12].iter().flat_map(|word| word.to_le_bytes()));
         }
@@ -315,16 +323,17 @@ fn a_reduced_call_counts_as_many_rounds_as_it_has() {
     }
 }
 
-/// The cell that is written first holds the state after the input, and without visits nobody touches it again.
+/// The cell that is written first holds the state after the input, and without visits nobody touches it again. The
+/// mixer is no part of the input either, but absorbing goes by it.
 #[test]
 fn no_setting_is_part_of_the_input() {
-    let first_cell = |settings| {
-        let end = end(&inputs_with((0, 3, 2), settings), 32, 0, 0);
-        end.matrix[12..24].to_vec()
-    };
-    let usual = first_cell(Settings::USUAL);
+    let inputs = inputs((0, 3, 2));
+    let padded = padded_input(inputs.password, inputs.salt, &inputs.parameters(32));
     for settings in all_settings() {
-        assert_eq!(first_cell(settings), usual, "{settings:?}");
+        let end = end(&Inputs { settings, ..inputs }, 32, 0, 0);
+        let mut sponge = Sponge::start(settings.rho, settings.mixer);
+        absorb_input(&mut sponge, &padded);
+        assert_eq!(end.matrix[12..24], sponge.rand(), "{settings:?}");
     }
 }
 

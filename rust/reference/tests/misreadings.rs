@@ -7,7 +7,7 @@ mod common;
 mod second_writing;
 
 use lyra2_reference::vectors::{checksum, Answer, Given, Question};
-use lyra2_reference::Settings;
+use lyra2_reference::{Mixer, Settings};
 use second_writing::{derive, Inputs, Misreading, Misreading::*};
 
 /// Inputs of the second writing.
@@ -21,6 +21,7 @@ fn inputs(given: &Given, key_len: u64) -> Inputs {
         c: given.c as usize,
         rho: given.settings().rho as usize,
         omega: given.settings().omega as usize,
+        mixer: given.settings().mixer,
     }
 }
 
@@ -70,6 +71,7 @@ fn right_key(inputs: &Inputs) -> Vec<u8> {
         settings: Settings {
             rho: inputs.rho as u64,
             omega: inputs.omega as u64,
+            mixer: inputs.mixer,
         },
     };
     lyra2_reference::derive(&given, &mut key, &mut matrix).unwrap();
@@ -89,6 +91,7 @@ fn named(password_len: usize, r: usize, c: usize) -> Inputs {
         c,
         rho: 1,
         omega: 2,
+        mixer: Mixer::Plain,
     }
 }
 

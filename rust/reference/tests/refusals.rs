@@ -4,7 +4,9 @@ use lyra2_reference::refusal::{
     Refusal, COST_CHECKS, LINE_READ_CHECKS, LINE_WRITE_CHECKS, PLAIN_CHECKS, RECORDED_CHECKS,
     ROTATIONS, ROUNDS, WALK_CHECKS,
 };
-use lyra2_reference::{check, cost, derive, derive_recorded, walk, Inputs, Parameters, Settings};
+use lyra2_reference::{
+    check, cost, derive, derive_recorded, walk, Inputs, Mixer, Parameters, Settings,
+};
 use std::collections::BTreeSet;
 
 /// The sizes of a call; the contents of its buffers do not matter here.
@@ -187,8 +189,14 @@ fn limits_themselves_are_accepted() {
     assert_eq!(changed(wide), [0; 4]);
     for rho in ROUNDS {
         for omega in ROTATIONS {
-            let found = changed(|call| call.settings = Settings { rho, omega });
-            assert_eq!(found, [0; 4], "rho {rho}, omega {omega}");
+            for mixer in [Mixer::Plain, Mixer::BlaMka] {
+                let settings = Settings { rho, omega, mixer };
+                assert_eq!(
+                    changed(|call| call.settings = settings),
+                    [0; 4],
+                    "{settings:?}"
+                );
+            }
         }
     }
 }

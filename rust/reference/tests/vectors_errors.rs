@@ -1,6 +1,6 @@
 //! Bad vectors files and bad arguments: one line says what is wrong and where.
 
-use lyra2_reference::vectors::{read, Answer, Question};
+use lyra2_reference::vectors::{read, Answer, NamedSettings, Question};
 use lyra2_reference::{Refusal, Settings};
 use std::path::PathBuf;
 use std::process::{Command, Output};
@@ -100,10 +100,10 @@ fn settings_are_named_together_or_not_at_all() {
             other => panic!("{other:?}"),
         }
     };
-    let named = Settings { rho: 12, omega: 11 };
-    assert_eq!(settings(NAMED), (Some(named), named));
+    let named = NamedSettings::pair(12, 11);
+    assert_eq!(settings(NAMED), (Some(named), named.settings()));
     let unnamed = NAMED.replace(" rho=12 omega=11", "");
-    assert_eq!(settings(&unnamed), (None, Settings { rho: 1, omega: 2 }));
+    assert_eq!(settings(&unnamed), (None, Settings::USUAL));
 }
 
 #[test]

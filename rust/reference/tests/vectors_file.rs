@@ -196,7 +196,7 @@ fn asked(question: &Question) -> Option<Asked> {
             given: *given,
             settings: Settings {
                 rho: rho.unwrap_or(1),
-                omega: 2,
+                ..Settings::USUAL
             },
             matrix_words: u64::MAX,
             record_words: u64::MAX,

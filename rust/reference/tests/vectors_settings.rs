@@ -78,7 +78,7 @@ fn settings_of(wanted: impl Fn(&Answer) -> bool) -> BTreeSet<(u64, u64)> {
             continue;
         };
         if given.t > 0 && given.r > 3 && given.c > 1 && wanted(&case.answer) {
-            let Settings { rho, omega } = given.settings();
+            let Settings { rho, omega, .. } = given.settings();
             found.insert((rho, omega));
         }
     }

@@ -42,7 +42,7 @@ fn digest_of_zeros(length: usize, bits: usize) -> String {
         if last {
             v[14] = !v[14];
         }
-        rounds(&mut v, 12);
+        rounds(&mut v, 12, false);
         for i in 0..8 {
             h[i] ^= v[i] ^ v[i + 8];
         }
@@ -88,7 +88,7 @@ fn digests_of_other_lengths() {
 fn no_rounds_change_nothing() {
     let mut state: State = std::array::from_fn(|i| (i as u64) << 32 | 7);
     let before = state;
-    rounds(&mut state, 0);
+    rounds(&mut state, 0, false);
     assert_eq!(state, before);
 }
 
@@ -96,9 +96,9 @@ fn no_rounds_change_nothing() {
 fn rounds_compose() {
     let start: State = std::array::from_fn(|i| 0x0123_4567_89ab_cdef_u64.rotate_left(5 * i as u32));
     let mut once = start;
-    rounds(&mut once, 12);
+    rounds(&mut once, 12, false);
     let mut twice = start;
-    rounds(&mut twice, 5);
-    rounds(&mut twice, 7);
+    rounds(&mut twice, 5, false);
+    rounds(&mut twice, 7, false);
     assert_eq!(once, twice);
 }

@@ -3,10 +3,9 @@
 //! A group draws its passwords and salts from a seed of its own, so that a change to one group
 //! leaves the others' contents as they are.
 
-use super::case::{Bytes, Given, Question};
+use super::case::{Bytes, Given, NamedSettings, Question};
 use super::random::Random;
 use crate::input::Parameters;
-use crate::settings::Settings;
 use crate::Inputs;
 
 /// The sizes of a derivation, and its settings where the line is to name them.
@@ -18,7 +17,7 @@ pub(super) struct Shape {
     pub t: u64,
     pub r: u64,
     pub c: u64,
-    pub settings: Option<Settings>,
+    pub settings: Option<NamedSettings>,
 }
 
 /// The shape that the groups vary.

@@ -5,7 +5,7 @@ use crate::refusal::{
     Refusal, COST_CHECKS, LINE_READ_CHECKS, LINE_WRITE_CHECKS, PLAIN_CHECKS, RECORDED_CHECKS,
     WALK_CHECKS,
 };
-use crate::settings::Settings;
+use crate::settings::{Mixer, Settings};
 use crate::sponge::{Counts, State};
 
 /// A run of bytes, given one by one or as a number of zeros.
@@ -49,7 +49,7 @@ pub struct Given {
     /// The number of columns C.
     pub c: u64,
     /// The settings, where the line names them.
-    pub settings: Option<Settings>,
+    pub settings: Option<NamedSettings>,
     /// Words of the lent matrix.
     pub matrix_words: u64,
 }
@@ -69,7 +69,50 @@ impl Given {
 
     /// The settings; a line that names none goes with the usual choice.
     pub fn settings(&self) -> Settings {
-        self.settings.unwrap_or(Settings::USUAL)
+        self.settings
+            .map_or(Settings::USUAL, |named| named.settings())
+    }
+}
+
+/// The settings that a line names: rounds and rotation, which go together, and after them perhaps the mixer.
+#[derive(Clone, Copy, Debug, PartialEq, Eq)]
+pub struct NamedSettings {
+    /// Rounds of a reduced call, ρ.
+    pub rho: u64,
+    /// Words that the rotation goes by, ω.
+    pub omega: u64,
+    /// The mixer, where the line names it.
+    pub mixer: Option<Mixer>,
+}
+
+impl NamedSettings {
+    /// Rounds and rotation alone.
+    pub const fn pair(rho: u64, omega: u64) -> NamedSettings {
+        NamedSettings {
+            rho,
+            omega,
+            mixer: None,
+        }
+    }
+
+    /// The settings; the mixer is the plain one where the line names none.
+    pub fn settings(self) -> Settings {
+        Settings {
+            rho: self.rho,
+            omega: self.omega,
+            mixer: self.mixer.unwrap_or(Settings::USUAL.mixer),
+        }
+    }
+}
+
+/// Every setting named.
+impl From<Settings> for NamedSettings {
+    fn from(Settings { rho, omega, mixer }: Settings) -> NamedSettings {
+        NamedSettings {
+            rho,
+            omega,
+            mixer: Some(mixer),
+        }
     }
 }
 

@@ -19,7 +19,7 @@ mod settings;
 pub mod subject;
 pub mod write;
 
-pub use case::{Answer, Bytes, Case, Given, LoginValues, Question};
+pub use case::{Answer, Bytes, Case, Given, LoginValues, NamedSettings, Question};
 pub use read::{read, Problem};
 pub use run::Coverage;
 pub use subject::{Reference, Subject};

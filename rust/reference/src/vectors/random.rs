@@ -1,8 +1,8 @@
 //! Random questions from a seed, for runs longer than the vectors file.
 
-use super::case::{Bytes, Given, Question};
+use super::case::{Bytes, Given, NamedSettings, Question};
 use crate::refusal::{ROTATIONS, ROUNDS};
-use crate::settings::Settings;
+use crate::settings::{Mixer, Settings};
 
 /// The generator SplitMix64: small, and easy to write again elsewhere.
 #[derive(Clone, Debug)]
@@ -63,7 +63,7 @@ pub fn question(random: &mut Random) -> Question {
         t,
         r,
         c,
-        settings: Some(settings(random)),
+        settings: Some(NamedSettings::from(settings(random))),
         matrix_words: 0,
     };
     let mut key_len = random.mostly(1, 200, 1024, 8);
@@ -73,6 +73,9 @@ pub fn question(random: &mut Random) -> Question {
     if random.once_in(8) {
         spoil(random, &mut given, &mut key_len, &mut record_words);
     }
+    if let Some(settings) = given.settings.as_mut() {
+        settings.mixer = Some(mixer(random));
+    }
     Question::DeriveRecorded {
         given,
         key_len,
@@ -81,20 +84,28 @@ pub fn question(random: &mut Random) -> Question {
     }
 }
 
-/// The usual choice, or once in two times any.
+/// The usual rounds and rotation, or once in two times any that are accepted, with the plain mixer.
 pub fn settings(random: &mut Random) -> Settings {
     if random.once_in(2) {
-        any_settings(random)
+        any_pair(random).settings()
     } else {
         Settings::USUAL
     }
 }
 
-/// Any settings that are accepted.
-pub fn any_settings(random: &mut Random) -> Settings {
-    Settings {
-        rho: random.between(*ROUNDS.start(), *ROUNDS.end()),
-        omega: random.between(*ROTATIONS.start(), *ROTATIONS.end()),
+/// Any rounds and rotation that are accepted.
+pub fn any_pair(random: &mut Random) -> NamedSettings {
+    let rho = random.between(*ROUNDS.start(), *ROUNDS.end());
+    let omega = random.between(*ROTATIONS.start(), *ROTATIONS.end());
+    NamedSettings::pair(rho, omega)
+}
+
+/// Either mixer. It is drawn after all else, so that the draws from before it was a setting are the same.
+pub fn mixer(random: &mut Random) -> Mixer {
+    if random.once_in(2) {
+        Mixer::BlaMka
+    } else {
+        Mixer::Plain
     }
 }
 

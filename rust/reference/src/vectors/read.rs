@@ -1,10 +1,13 @@
 //! Reading a vectors file: every line is a case, a comment or empty.
 
-use super::case::{Answer, Bytes, Case, Given, LoginValues, Output, Question, LISTED_OUTPUT_BYTES};
+use super::case::{
+    Answer, Bytes, Case, Given, LoginValues, NamedSettings, Output, Question, LISTED_OUTPUT_BYTES,
+};
 use super::fields::{unknown_value, Fields, Trouble};
+use super::write::mixer_name;
 use crate::input::Parameters;
 use crate::refusal::Refusal;
-use crate::settings::Settings;
+use crate::settings::Mixer;
 use crate::sponge::Counts;
 use std::fmt;
 
@@ -163,14 +166,32 @@ fn read_given(fields: &mut Fields) -> Result<Given, Trouble> {
     })
 }
 
-/// The settings, or None where the line names neither.
-fn read_settings(fields: &mut Fields) -> Result<Option<Settings>, Trouble> {
-    if !fields.has("rho") && !fields.has("omega") {
+/// The settings, or None where the line names none of them.
+fn read_settings(fields: &mut Fields) -> Result<Option<NamedSettings>, Trouble> {
+    if !["rho", "omega", "mixer"]
+        .iter()
+        .any(|name| fields.has(name))
+    {
         return Ok(None);
     }
-    Ok(Some(Settings {
+    Ok(Some(NamedSettings {
         rho: fields.any_number("rho")?,
         omega: fields.any_number("omega")?,
+        mixer: read_mixer(fields)?,
+    }))
+}
+
+/// The mixer, or None where the line does not name it.
+fn read_mixer(fields: &mut Fields) -> Result<Option<Mixer>, Trouble> {
+    if !fields.has("mixer") {
+        return Ok(None);
+    }
+    let [plain, blamka] = [Mixer::Plain, Mixer::BlaMka].map(mixer_name);
+    let is_plain = fields.either("mixer", plain, blamka)?;
+    Ok(Some(if is_plain {
+        Mixer::Plain
+    } else {
+        Mixer::BlaMka
     }))
 }
 

@@ -2,11 +2,10 @@
 //!
 //! The contents of passwords, salts and stored keys do not matter here, so that all are zeros.
 
-use super::case::{Bytes, Given, Question};
+use super::case::{Bytes, Given, NamedSettings, Question};
 use super::random::Random;
 use crate::input::Parameters;
 use crate::refusal::Refusal;
-use crate::settings::Settings;
 
 /// The sizes of a call, and its settings where the line is to name them.
 #[derive(Clone, Copy)]
@@ -17,10 +16,13 @@ struct Sizes {
     t: u64,
     r: u64,
     c: u64,
-    settings: Option<Settings>,
+    settings: Option<NamedSettings>,
     matrix_words: u64,
     record_words: u64,
 }
+
+/// The usual rounds and rotation, named.
+const USUAL_PAIR: NamedSettings = NamedSettings::pair(1, 2);
 
 /// An accepted call whose buffers fit exactly.
 const FITTING: Sizes = Sizes {
@@ -49,8 +51,8 @@ impl Sizes {
     }
 
     /// The settings, which the line then names.
-    fn settings(&mut self) -> &mut Settings {
-        self.settings.get_or_insert(Settings::USUAL)
+    fn settings(&mut self) -> &mut NamedSettings {
+        self.settings.get_or_insert(USUAL_PAIR)
     }
 
     fn recorded(&self) -> Question {
@@ -481,11 +483,11 @@ const AROUND_SETTINGS: [Size; 5] = [
 /// Settings outside their limits: alone, with every other condition, and with all from one on.
 pub fn of_settings() -> Vec<Question> {
     let base = Sizes {
-        settings: Some(Settings::USUAL),
+        settings: Some(USUAL_PAIR),
         ..FITTING
     };
     let with = |rho, omega| Sizes {
-        settings: Some(Settings { rho, omega }),
+        settings: Some(NamedSettings::pair(rho, omega)),
         ..base
     };
     let mut questions = Vec::new();

@@ -1,10 +1,9 @@
 //! The questions of the vectors file about rounds and rotation as settings, those that are accepted.
 
 use super::accepted::{four_ways, listed_in_full, plain_contents_of, Shape, BASE};
-use super::case::Question;
-use super::random::{any_settings, Random};
+use super::case::{NamedSettings, Question};
+use super::random::{any_pair, Random};
 use crate::refusal::{ROTATIONS, ROUNDS};
-use crate::settings::Settings;
 
 /// All groups, one after the other.
 pub fn accepted() -> Vec<Question> {
@@ -26,7 +25,7 @@ pub fn accepted() -> Vec<Question> {
 /// The shape that the groups vary, with these settings.
 fn with(rho: u64, omega: u64) -> Shape {
     Shape {
-        settings: Some(Settings { rho, omega }),
+        settings: Some(NamedSettings::pair(rho, omega)),
         ..BASE
     }
 }
@@ -204,7 +203,7 @@ fn random() -> Vec<Question> {
             t: random.between(0, 3),
             r: random.between(3, 40),
             c: random.between(1, 8),
-            settings: Some(any_settings(&mut random)),
+            settings: Some(any_pair(&mut random)),
         };
         let mut given = shape.given(&mut random);
         given.matrix_words += random.between(0, 3);

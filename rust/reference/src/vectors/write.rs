@@ -1,7 +1,7 @@
 //! Writing a case as a line of text.
 
-use super::case::{Answer, Bytes, Case, Given, LoginValues, Question};
-use crate::settings::Settings;
+use super::case::{Answer, Bytes, Case, Given, LoginValues, NamedSettings, Question};
+use crate::settings::Mixer;
 use crate::sponge::Counts;
 
 /// The first lines of the vectors file.
@@ -87,6 +87,14 @@ fn question(question: &Question) -> Vec<Field> {
     }
 }
 
+/// The name of a mixer.
+pub fn mixer_name(mixer: Mixer) -> &'static str {
+    match mixer {
+        Mixer::Plain => "plain",
+        Mixer::BlaMka => "blamka",
+    }
+}
+
 fn given(given: &Given) -> Vec<Field> {
     let mut fields = vec![
         bytes("password", "password_zeros", &given.password),
@@ -95,9 +103,10 @@ fn given(given: &Given) -> Vec<Field> {
         ("R", given.r.to_string()),
         ("C", given.c.to_string()),
     ];
-    if let Some(Settings { rho, omega }) = given.settings {
+    if let Some(NamedSettings { rho, omega, mixer }) = given.settings {
         fields.push(("rho", rho.to_string()));
         fields.push(("omega", omega.to_string()));
+        fields.extend(mixer.map(|mixer| ("mixer", mixer_name(mixer).to_string())));
     }
     fields.push(("matrix_words", given.matrix_words.to_string()));
     fields

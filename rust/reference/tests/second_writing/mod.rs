@@ -3,6 +3,7 @@
 //! Only the round and the starting words are the library's; `b2sum` vouches for those.
 
 use lyra2_reference::sponge::{round, Counts, State, STARTING_WORDS};
+use lyra2_reference::Mixer;
 
 #[derive(Clone, Copy, Debug, PartialEq, Eq)]
 pub enum Misreading {
@@ -63,6 +64,7 @@ struct Derivation {
     columns: usize,
     rho: usize,
     omega: usize,
+    mixer: Mixer,
     cells: Vec<Cell>,
     prev0: usize,
     prev1: usize,
@@ -75,7 +77,7 @@ impl Derivation {
             FullCallsOfRho => self.rho,
             _ => 12,
         };
-        (0..rounds).for_each(|_| round(&mut self.state));
+        (0..rounds).for_each(|_| round(&mut self.state, self.mixer));
         self.counts.full += 1;
         self.counts.rounds += rounds as u64;
     }
@@ -86,7 +88,7 @@ impl Derivation {
             (SetupOfOneRound, true) | (VisitsOfOneRound, false) => 1,
             _ => self.rho,
         };
-        (0..rounds).for_each(|_| round(&mut self.state));
+        (0..rounds).for_each(|_| round(&mut self.state, self.mixer));
         self.counts.reduced += 1;
         self.counts.rounds += match self.misreading {
             RoundsCountedOnce => 1,
@@ -241,6 +243,7 @@ pub struct Inputs {
     pub c: usize,
     pub rho: usize,
     pub omega: usize,
+    pub mixer: Mixer,
 }
 
 /// What a recorded derivation ends with. The plain one has the same key, and leaves nothing of the matrix.
@@ -286,6 +289,7 @@ fn visited(inputs: &Inputs, misreading: Misreading) -> Derivation {
         columns: inputs.c,
         rho: inputs.rho,
         omega: inputs.omega,
+        mixer: inputs.mixer,
         cells: vec![[0; 12]; inputs.r * inputs.c],
         prev0: 2,
         prev1: 0,

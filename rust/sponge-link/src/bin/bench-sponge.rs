@@ -57,7 +57,7 @@ fn main() {
     let mut proved = Vec::new();
     let mut rust = Vec::new();
     for _ in 0..TURNS {
-        let (time, end) = timed(sponge_link::rounds);
+        let (time, end) = timed(|state, n| sponge_link::rounds(state, n, false));
         let (other, same) = timed(rounds_in_rust);
         assert_eq!(end, same, "the two end in different states");
         proved.push(time);
