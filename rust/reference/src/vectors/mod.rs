@@ -10,6 +10,7 @@ pub mod checksum;
 pub mod fields;
 mod lent;
 mod lines;
+mod mixer;
 pub mod random;
 pub mod random_line;
 pub mod read;
@@ -40,6 +41,8 @@ pub fn chosen_questions() -> Vec<Question> {
         lines::written(),
         settings::accepted(),
         refused::of_settings(),
+        mixer::accepted(),
+        refused::with_blamka(),
     ]
     .concat()
 }

@@ -6,6 +6,7 @@ use super::case::{Bytes, Given, NamedSettings, Question};
 use super::random::Random;
 use crate::input::Parameters;
 use crate::refusal::Refusal;
+use crate::settings::Mixer;
 
 /// The sizes of a call, and its settings where the line is to name them.
 #[derive(Clone, Copy)]
@@ -538,6 +539,70 @@ pub fn of_settings() -> Vec<Question> {
         questions.extend([with_room.plain(), with_room.check()]);
     }
     without_repeats(questions)
+}
+
+/// Every size, in the order of the checks.
+const IN_ORDER: [Size; 10] = [
+    Size::Key,
+    Size::Password,
+    Size::Salt,
+    Size::TimeCost,
+    Size::Rows,
+    Size::Columns,
+    Size::Rounds,
+    Size::Rotation,
+    Size::Matrix,
+    Size::Record,
+];
+
+/// Each condition with BlaMka: alone, with the next in the order, and with others at random. The cost question takes no
+/// mixer.
+pub fn with_blamka() -> Vec<Question> {
+    let base = Sizes {
+        settings: Some(NamedSettings {
+            mixer: Some(Mixer::BlaMka),
+            ..USUAL_PAIR
+        }),
+        ..FITTING
+    };
+    let mut questions = with_each(base, &IN_ORDER, &[false, true]);
+    for two in IN_ORDER.windows(2) {
+        for from_above in [false, true] {
+            let mut sizes = base;
+            let check = make_hold(&mut sizes, two[0], from_above);
+            make_hold(&mut sizes, two[1], !from_above);
+            questions.extend(sizes.with_check(check));
+        }
+    }
+    questions.extend(random_with(base));
+    questions.retain(|question| !matches!(question, Question::Cost { .. }));
+    without_repeats(questions)
+}
+
+/// Small sizes with the settings of a call and some words to spare; one in six is outside its limits.
+fn random_with(base: Sizes) -> Vec<Question> {
+    let mut random = Random::new(43);
+    let mut questions = Vec::new();
+    for _ in 0..12 {
+        let drawn = Sizes {
+            key_len: random.between(1, 200),
+            password_len: random.between(0, 200),
+            salt_len: random.between(8, 64),
+            t: random.between(0, 3),
+            r: random.between(3, 12),
+            c: random.between(1, 4),
+            ..base
+        };
+        let mut sizes = drawn.fitting();
+        sizes.matrix_words += random.between(0, 12);
+        for size in IN_ORDER {
+            if random.once_in(6) {
+                make_hold(&mut sizes, size, random.once_in(2));
+            }
+        }
+        questions.extend(sizes.questions());
+    }
+    questions
 }
 
 /// Plain derivations and checks that are refused although the matrix would do, which must not be wiped then; only
