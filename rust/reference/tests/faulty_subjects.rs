@@ -9,7 +9,7 @@ use lyra2_reference::refusal::{
 };
 use lyra2_reference::vectors::{run, write, Answer, Case, Coverage, Question, Reference, Subject};
 use lyra2_reference::{
-    Checked, Counts, Inputs, LineParts, LineValues, Parameters, Recorded, Refusal, Settings,
+    Checked, Counts, Inputs, LineParts, LineValues, Mixer, Parameters, Recorded, Refusal, Settings,
 };
 
 #[derive(Clone, Copy, Debug, PartialEq, Eq)]
@@ -315,6 +315,10 @@ impl Asked {
     fn has_short_matrix(&self) -> bool {
         self.matrix_words < self.given.matrix_words()
     }
+
+    fn has_blamka(&self) -> bool {
+        self.settings.mixer == Mixer::BlaMka
+    }
 }
 
 /// A wrong rule of refusal: to some calls it gives another answer than the one that is due.
@@ -339,7 +343,7 @@ impl WrongRule {
     }
 }
 
-const WRONG_RULES: [WrongRule; 19] = [
+const WRONG_RULES: [WrongRule; 22] = [
     WrongRule {
         name: "a long salt is answered as a short one",
         due: Err(Refusal::SaltTooLong),
@@ -453,6 +457,24 @@ const WRONG_RULES: [WrongRule; 19] = [
         due: Err(Refusal::Rotation),
         calls: Asked::has_short_matrix,
         answer: Refusal::MatrixWords,
+    },
+    WrongRule {
+        name: "BlaMka is refused",
+        due: Ok(()),
+        calls: Asked::has_blamka,
+        answer: Refusal::Rotation,
+    },
+    WrongRule {
+        name: "with BlaMka the rotation comes before the rounds",
+        due: Err(Refusal::Rounds),
+        calls: |asked| asked.has_blamka() && asked.has_wrong_rotation(),
+        answer: Refusal::Rotation,
+    },
+    WrongRule {
+        name: "with BlaMka a short matrix is answered as a wrong rotation",
+        due: Err(Refusal::MatrixWords),
+        calls: Asked::has_blamka,
+        answer: Refusal::Rotation,
     },
 ];
 
@@ -592,6 +614,29 @@ const WRONG_ROTATIONS: [WrongUse; 9] = [
     }),
 ];
 
+const WRONG_MIXERS: [WrongUse; 5] = [
+    ("always the plain mixer", |settings| {
+        settings.mixer = Mixer::Plain
+    }),
+    ("always BlaMka", |settings| settings.mixer = Mixer::BlaMka),
+    ("the other mixer", |settings| {
+        settings.mixer = match settings.mixer {
+            Mixer::Plain => Mixer::BlaMka,
+            Mixer::BlaMka => Mixer::Plain,
+        }
+    }),
+    ("the plain mixer with other rounds", |settings| {
+        if settings.rho != 1 {
+            settings.mixer = Mixer::Plain
+        }
+    }),
+    ("the usual rounds and rotation with BlaMka", |settings| {
+        if settings.mixer == Mixer::BlaMka {
+            (settings.rho, settings.omega) = (1, 2)
+        }
+    }),
+];
+
 /// The reference program with a wrong use of the settings in one of its operations.
 struct WrongSettings {
     change: fn(&mut Settings),
@@ -658,8 +703,12 @@ impl Subject for WrongSettings {
 #[test]
 fn wrong_uses_of_the_settings_are_noticed_in_every_operation() {
     let cases = small_cases();
-    // The cost question has no rotation.
-    let uses = [(&WRONG_ROUNDS[..], &OPS[..]), (&WRONG_ROTATIONS, &OPS[..3])];
+    // The cost question has no rotation and no mixer.
+    let uses = [
+        (&WRONG_ROUNDS[..], &OPS[..]),
+        (&WRONG_ROTATIONS, &OPS[..3]),
+        (&WRONG_MIXERS, &OPS[..3]),
+    ];
     for (wrong_uses, ops) in uses {
         for (name, change) in wrong_uses.iter().copied() {
             for op in ops.iter().copied() {

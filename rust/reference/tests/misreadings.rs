@@ -8,7 +8,7 @@ mod second_writing;
 
 use lyra2_reference::vectors::{checksum, Answer, Given, Question};
 use lyra2_reference::{Mixer, Settings};
-use second_writing::{derive, Inputs, Misreading, Misreading::*};
+use second_writing::{derive, Call, Inputs, Misreading, Misreading::*};
 
 /// Inputs of the second writing.
 fn inputs(given: &Given, key_len: u64) -> Inputs {
@@ -48,13 +48,18 @@ fn key(inputs: &Inputs, misreading: Misreading) -> Vec<u8> {
 
 /// Derivations of the file whose key the misreading gets wrong.
 fn told_apart(misreading: Misreading) -> usize {
+    told_apart_among(misreading, |_| true)
+}
+
+/// The same of some derivations alone.
+fn told_apart_among(misreading: Misreading, wanted: impl Fn(&Inputs) -> bool) -> usize {
     let differs = |inputs: &Inputs, answer: &Answer| match answer {
         Answer::Recorded { key: right, .. } => key(inputs, misreading) != *right,
         _ => false,
     };
     derivations_of_the_file()
         .iter()
-        .filter(|(_, inputs, answer)| differs(inputs, answer))
+        .filter(|(_, inputs, answer)| wanted(inputs) && differs(inputs, answer))
         .count()
 }
 
@@ -313,4 +318,80 @@ fn reduced_calls_counted_as_one_round() {
 fn settings_in_the_input() {
     assert_right_for(SettingsAbsorbed, |rho, omega| (rho, omega) == (1, 2));
     assert!(told_apart(SettingsAbsorbed) >= 100);
+}
+
+/// Both mixers with several rounds and rotations; the key has several pieces.
+fn with_mixers() -> Vec<Inputs> {
+    let mut all = Vec::new();
+    for mixer in [Mixer::Plain, Mixer::BlaMka] {
+        for (rho, omega) in [(1, 2), (1, 1), (12, 11), (3, 6)] {
+            all.push(Inputs {
+                key_len: 200,
+                mixer,
+                ..with_settings(rho, omega)
+            });
+        }
+    }
+    all
+}
+
+/// With just these mixers the misreading has to give a wrong key, and the file to tell it apart.
+fn assert_wrong_for(misreading: Misreading, wrong: &[Mixer]) {
+    for inputs in with_mixers() {
+        let is_wrong = key(&inputs, misreading) != right_key(&inputs);
+        let asked = format!("{misreading:?}: {:?}", inputs.mixer);
+        assert_eq!(is_wrong, wrong.contains(&inputs.mixer), "{asked}");
+    }
+    for mixer in wrong {
+        let told_apart = told_apart_among(misreading, |inputs| inputs.mixer == *mixer);
+        assert!(told_apart >= 20, "{misreading:?}: {told_apart}");
+    }
+}
+
+#[test]
+fn products_of_other_numbers_or_taken_otherwise() {
+    for misreading in [
+        WholeWordsMultiplied,
+        LowBits(31),
+        LowBits(33),
+        ProductTimes(1),
+        ProductTimes(4),
+    ] {
+        assert_wrong_for(misreading, &[Mixer::BlaMka]);
+    }
+}
+
+#[test]
+fn one_addition_without_a_product() {
+    for number in 0..4 {
+        assert_wrong_for(PlainAddition(number), &[Mixer::BlaMka]);
+    }
+}
+
+#[test]
+fn cells_summed_by_the_mixer() {
+    assert_wrong_for(CellsSummedByMixer, &[Mixer::BlaMka]);
+}
+
+#[test]
+fn mixer_ignored_exchanged_or_absorbed() {
+    assert_wrong_for(MixerIgnored, &[Mixer::BlaMka]);
+    assert_wrong_for(MixersExchanged, &[Mixer::Plain, Mixer::BlaMka]);
+    assert_wrong_for(MixerAbsorbed, &[Mixer::BlaMka]);
+}
+
+/// BlaMka for full calls only, for reduced calls only, and for all but one kind of call.
+#[test]
+fn some_calls_without_the_mixer() {
+    for plain in [
+        &[Call::Setup, Call::Visit][..],
+        &[Call::Input, Call::LastCell, Call::Key],
+        &[Call::Input],
+        &[Call::Setup],
+        &[Call::Visit],
+        &[Call::LastCell],
+        &[Call::Key],
+    ] {
+        assert_wrong_for(PlainCalls(plain), &[Mixer::BlaMka]);
+    }
 }

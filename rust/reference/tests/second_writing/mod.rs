@@ -1,9 +1,9 @@
 //! Lyra2 written a second time, apart from the library, with a switch for each misreading.
 //!
-//! Only the round and the starting words are the library's; `b2sum` vouches for those.
+//! Only the starting words are the library's; `b2sum` vouches for those.
 
-use lyra2_reference::sponge::{round, Counts, State, STARTING_WORDS};
-use lyra2_reference::Mixer;
+use lyra2_reference::sponge::{Counts, State, STARTING_WORDS};
+use lyra2_reference::Mixer::{self, BlaMka, Plain};
 
 #[derive(Clone, Copy, Debug, PartialEq, Eq)]
 pub enum Misreading {
@@ -49,6 +49,39 @@ pub enum Misreading {
     RoundsCountedOnce,
     /// ρ and ω follow C in the input, unless they are the usual choice.
     SettingsAbsorbed,
+    /// BlaMka multiplies whole words.
+    WholeWordsMultiplied,
+    /// BlaMka's low halves have this many bits.
+    LowBits(u32),
+    /// BlaMka's product is taken this many times.
+    ProductTimes(u64),
+    /// BlaMka's addition of this number in G, from 0 on, is plain.
+    PlainAddition(usize),
+    /// The sums of cells go by the mixer too.
+    CellsSummedByMixer,
+    /// The mixer is always the plain one.
+    MixerIgnored,
+    /// Plain is taken for BlaMka, and BlaMka for plain.
+    MixersExchanged,
+    /// These calls are plain, whatever the mixer.
+    PlainCalls(&'static [Call]),
+    /// A number for BlaMka follows C in the input.
+    MixerAbsorbed,
+}
+
+/// What a call of the sponge is made for.
+#[derive(Clone, Copy, Debug, PartialEq, Eq)]
+pub enum Call {
+    /// A block of the input was absorbed.
+    Input,
+    /// A cell of Setup.
+    Setup,
+    /// A cell of a visit.
+    Visit,
+    /// The last cell was absorbed.
+    LastCell,
+    /// A further piece of the key is wanted.
+    Key,
 }
 
 use Misreading::*;
@@ -72,23 +105,22 @@ struct Derivation {
 }
 
 impl Derivation {
-    fn full_call(&mut self) {
+    fn full_call(&mut self, call: Call) {
         let rounds = match self.misreading {
             FullCallsOfRho => self.rho,
             _ => 12,
         };
-        (0..rounds).for_each(|_| round(&mut self.state, self.mixer));
+        self.permute(rounds, call);
         self.counts.full += 1;
         self.counts.rounds += rounds as u64;
     }
 
-    /// A reduced call of Setup, or of a visit.
-    fn reduced_call(&mut self, in_setup: bool) {
-        let rounds = match (self.misreading, in_setup) {
-            (SetupOfOneRound, true) | (VisitsOfOneRound, false) => 1,
+    fn reduced_call(&mut self, call: Call) {
+        let rounds = match (self.misreading, call) {
+            (SetupOfOneRound, Call::Setup) | (VisitsOfOneRound, Call::Visit) => 1,
             _ => self.rho,
         };
-        (0..rounds).for_each(|_| round(&mut self.state, self.mixer));
+        self.permute(rounds, call);
         self.counts.reduced += 1;
         self.counts.rounds += match self.misreading {
             RoundsCountedOnce => 1,
@@ -96,13 +128,42 @@ impl Derivation {
         };
     }
 
+    /// The four columns of the state, then its four diagonals, so many times over.
+    fn permute(&mut self, rounds: usize, call: Call) {
+        let mixer = match (self.misreading, self.mixer) {
+            (MixerIgnored, _) | (MixersExchanged, BlaMka) => Plain,
+            (MixersExchanged, Plain) => BlaMka,
+            (PlainCalls(calls), _) if calls.contains(&call) => Plain,
+            (_, mixer) => mixer,
+        };
+        for _ in 0..rounds {
+            for turn in 0..2 {
+                for i in 0..4 {
+                    self.mix(mixer, [0, 1, 2, 3].map(|k| 4 * k + (i + k * turn) % 4));
+                }
+            }
+        }
+    }
+
+    /// G on four places of the state: twice a sum, a turn, a sum and a turn.
+    fn mix(&mut self, mixer: Mixer, [a, b, c, d]: [usize; 4]) {
+        let misreading = self.misreading;
+        let v = &mut self.state;
+        for (first, turns) in [(0, [32, 24]), (2, [16, 63])] {
+            v[a] = sum(misreading, mixer, first, v[a], v[b]);
+            v[d] = (v[d] ^ v[a]).rotate_right(turns[0]);
+            v[c] = sum(misreading, mixer, first + 1, v[c], v[d]);
+            v[b] = (v[b] ^ v[c]).rotate_right(turns[1]);
+        }
+    }
+
     fn xor(&mut self, words: &[u64]) {
         self.state.iter_mut().zip(words).for_each(|(s, w)| *s ^= w);
     }
 
-    fn absorb(&mut self, words: &[u64]) {
+    fn absorb(&mut self, words: &[u64], call: Call) {
         self.xor(words);
-        self.full_call();
+        self.full_call(call);
     }
 
     /// The words of the state by which row0, row1, col0 and col1 are picked.
@@ -137,7 +198,10 @@ impl Derivation {
     fn sum(&self, places: &[usize]) -> Cell {
         std::array::from_fn(|j| {
             let words = places.iter().map(|&place| self.cells[place][j]);
-            words.fold(0, u64::wrapping_add)
+            words.fold(0, |x, y| match self.misreading {
+                CellsSummedByMixer => sum(Correct, self.mixer, 0, x, y),
+                _ => x.wrapping_add(y),
+            })
         })
     }
 
@@ -157,7 +221,7 @@ impl Derivation {
         for col in 0..self.columns {
             let place = self.written(0, col);
             self.cells[place] = self.rand();
-            self.reduced_call(true);
+            self.reduced_call(Call::Setup);
         }
         let (mut gap, mut stp, mut wnd, mut sqrt, mut row1) = (1isize, 1, 2, 2usize, 1);
         for row0 in 1..self.rows {
@@ -187,7 +251,7 @@ impl Derivation {
         };
         let old = self.cells[previous];
         self.xor(&input);
-        self.reduced_call(true);
+        self.reduced_call(Call::Setup);
         let rand = self.rand();
         let place = self.written(row0, col);
         self.cells[place] = std::array::from_fn(|j| old[j] ^ rand[j]);
@@ -221,7 +285,7 @@ impl Derivation {
         let input = self.sum(&[first, second, previous[0], previous[1]]);
         let second_before = self.cells[second];
         self.xor(&input);
-        self.reduced_call(false);
+        self.reduced_call(Call::Visit);
         let rand = self.rand();
         if self.misreading != SumAfterXor {
             self.xor_into(first, rand);
@@ -233,7 +297,24 @@ impl Derivation {
     }
 }
 
-/// What a derivation is made from: key length, password, salt, T, R, C, ρ and ω.
+/// The addition of this number in G, from 0 on.
+fn sum(misreading: Misreading, mixer: Mixer, number: usize, x: u64, y: u64) -> u64 {
+    let plain = x.wrapping_add(y);
+    if mixer == Plain || misreading == PlainAddition(number) {
+        return plain;
+    }
+    let (bits, times) = match misreading {
+        WholeWordsMultiplied => (64, 2),
+        LowBits(bits) => (bits, 2),
+        ProductTimes(times) => (32, times),
+        _ => (32, 2),
+    };
+    let low = |word: u64| word << (64 - bits) >> (64 - bits);
+    let product = low(x).wrapping_mul(low(y));
+    plain.wrapping_add(product.wrapping_mul(times))
+}
+
+/// What a derivation is made from: key length, password, salt, T, R, C, ρ, ω and the mixer.
 pub struct Inputs {
     pub key_len: usize,
     pub password: Vec<u8>,
@@ -262,6 +343,9 @@ fn padded(inputs: &Inputs, misreading: Misreading) -> Vec<u8> {
     let settings = [inputs.rho, inputs.omega];
     if misreading == SettingsAbsorbed && settings != [1, 2] {
         numbers.extend(settings);
+    }
+    if misreading == MixerAbsorbed && inputs.mixer == BlaMka {
+        numbers.push(1);
     }
     for number in numbers {
         input.extend((number as u32).to_le_bytes());
@@ -299,7 +383,7 @@ fn visited(inputs: &Inputs, misreading: Misreading) -> Derivation {
     for block in padded(inputs, misreading).chunks(64) {
         let word = |bytes: &[u8]| u64::from_le_bytes(bytes.try_into().unwrap());
         let words: Vec<_> = block.chunks(8).map(word).collect();
-        derivation.absorb(&words);
+        derivation.absorb(&words, Call::Input);
     }
     derivation.setup();
     (0..inputs.r * inputs.t).for_each(|_| derivation.visit());
@@ -317,14 +401,14 @@ pub fn derive(inputs: &Inputs, misreading: Misreading) -> End {
     let mut derivation = visited(inputs, misreading);
     let state = derivation.state;
     let last = derivation.cells[derivation.at(derivation.prev0, 0)];
-    derivation.absorb(&last);
+    derivation.absorb(&last, Call::LastCell);
     if misreading == ExtraCall {
-        derivation.full_call();
+        derivation.full_call(Call::Key);
     }
     let mut key = Vec::new();
     while key.len() < inputs.key_len {
         if !key.is_empty() {
-            derivation.full_call();
+            derivation.full_call(Call::Key);
         }
         key.extend(derivation.rand().into_iter().flat_map(u64::to_le_bytes));
     }
