@@ -1,7 +1,7 @@
 //! Bad vectors files and bad arguments: one line says what is wrong and where.
 
 use lyra2_reference::vectors::{read, Answer, NamedSettings, Question};
-use lyra2_reference::{Refusal, Settings};
+use lyra2_reference::{Mixer, Refusal, Settings};
 use std::path::PathBuf;
 use std::process::{Command, Output};
 
@@ -93,36 +93,65 @@ fn missing_fields() {
 fn settings_are_named_together_or_not_at_all() {
     assert_eq!(replaced(NAMED, " rho=12", ""), "field rho: missing");
     assert_eq!(replaced(NAMED, " omega=11", ""), "field omega: missing");
-    let settings = |line: &str| {
-        let cases = read(format!("{line}\n").as_bytes()).unwrap();
-        match &cases[0].1.question {
-            Question::Check { given, .. } => (given.settings, given.settings()),
-            other => panic!("{other:?}"),
-        }
-    };
     let named = NamedSettings::pair(12, 11);
     assert_eq!(settings(NAMED), (Some(named), named.settings()));
     let unnamed = NAMED.replace(" rho=12 omega=11", "");
     assert_eq!(settings(&unnamed), (None, Settings::USUAL));
 }
 
+/// The settings that a line of a check names, and those that it goes with.
+fn settings(line: &str) -> (Option<NamedSettings>, Settings) {
+    let cases = read(format!("{line}\n").as_bytes()).unwrap();
+    match &cases[0].1.question {
+        Question::Check { given, .. } => (given.settings, given.settings()),
+        other => panic!("{other:?}"),
+    }
+}
+
+#[test]
+fn the_mixer_is_one_of_two_names_beside_rounds_and_rotation() {
+    let with = |mixer: &str| NAMED.replace(" omega=11", &format!(" omega=11 mixer={mixer}"));
+    let pair = NamedSettings::pair(12, 11);
+    assert_eq!(pair.settings().mixer, Mixer::Plain);
+    for (name, mixer) in [("plain", Mixer::Plain), ("blamka", Mixer::BlaMka)] {
+        let (named, settings) = settings(&with(name));
+        let mixer = Some(mixer);
+        assert_eq!(named, Some(NamedSettings { mixer, ..pair }));
+        assert_eq!(Some(settings.mixer), mixer);
+    }
+    for name in ["", "BlaMka", "Plain", "blamka2", "1"] {
+        let expected = format!("field mixer: '{name}' is neither plain nor blamka");
+        assert_eq!(problem(&with(name)), expected);
+    }
+    let alone = CHECK.replace(" matrix_words", " mixer=plain matrix_words");
+    assert_eq!(problem(&alone), "field rho: missing");
+    let without_rotation = with("plain").replace(" omega=11", "");
+    assert_eq!(problem(&without_rotation), "field omega: missing");
+    let twice = with("plain mixer=plain");
+    assert_eq!(problem(&twice), "field mixer: given twice");
+}
+
 #[test]
 fn settings_of_lines_that_have_none() {
     let unknown = |name: &str| format!("field {name}: unknown in a line of this kind");
-    // The cost question has rounds and no rotation.
+    // The cost question has rounds, no rotation and no mixer.
     let rounds = COST.replace(" refusal=0", " rho=1 refusal=0");
     assert!(read(format!("{rounds}\n").as_bytes()).is_ok());
     let rotation = replaced(COST, " refusal=0", " rho=1 omega=2 refusal=0");
     assert_eq!(rotation, unknown("omega"));
+    let mixer = replaced(COST, " refusal=0", " rho=1 mixer=plain refusal=0");
+    assert_eq!(mixer, unknown("mixer"));
     for line in [WALK, LINE_READ, LINE_WRITE] {
-        for field in ["rho=1", "omega=2"] {
+        for field in ["rho=1", "omega=2", "mixer=plain"] {
             let what = replaced(line, " refusal=0", &format!(" {field} refusal=0"));
             let (name, _) = field.split_once('=').unwrap();
             assert_eq!(what, unknown(name), "{line}");
         }
     }
-    let program = replaced(PROGRAM, " output_len=0", " rho=1 output_len=0");
-    assert_eq!(program, unknown("rho"));
+    for (name, value) in [("rho", "1"), ("mixer", "plain")] {
+        let by = format!(" {name}={value} output_len=0");
+        assert_eq!(replaced(PROGRAM, " output_len=0", &by), unknown(name));
+    }
 }
 
 #[test]
@@ -358,12 +387,15 @@ fn program_says_where_a_file_is_bad() {
         complaint_about("rounds.txt", &format!("{rounds}\n")),
         expected
     );
-    let rotation = DERIVED.replace(" matrix_words", " rho=1 omega=3 matrix_words");
-    let complaint = complaint_about("rotation.txt", &format!("{rotation}\n"));
-    assert!(
-        complaint.starts_with("1: case 1: field key: "),
-        "{complaint}"
-    );
+    for (file, settings) in [
+        ("rotation.txt", "rho=1 omega=3"),
+        ("mixer.txt", "rho=1 omega=2 mixer=blamka"),
+    ] {
+        let other = DERIVED.replace(" matrix_words", &format!(" {settings} matrix_words"));
+        let complaint = complaint_about(file, &format!("{other}\n"));
+        let start = "1: case 1: field key: ";
+        assert!(complaint.starts_with(start), "{complaint}");
+    }
     // The sum that the line had before request #104, that of the end matrix.
     let kept = DERIVED.replace("66e368127e9e89a5", "0f3c14690553fc4a");
     let expected =
@@ -375,8 +407,10 @@ fn program_says_where_a_file_is_bad() {
 fn program_says_that_a_file_holds() {
     let file = place("good.txt");
     let mut lines = String::new();
-    let usual = DERIVED.replace(" matrix_words", " rho=1 omega=2 matrix_words");
-    for (number, line) in (1..).zip([WALK, DERIVED, &usual, NAMED, LINE_READ, LINE_WRITE]) {
+    let usual = DERIVED.replace(" matrix_words", " rho=1 omega=2 mixer=plain matrix_words");
+    let blamka = NAMED.replace(" matrix_words", " mixer=blamka matrix_words");
+    let good = [WALK, DERIVED, &usual, NAMED, &blamka, LINE_READ, LINE_WRITE];
+    for (number, line) in (1..).zip(good) {
         lines += &line.replace("case=1", &format!("case={number}"));
         lines.push('\n');
     }
@@ -385,7 +419,7 @@ fn program_says_that_a_file_holds() {
     assert!(output.status.success());
     let text = String::from_utf8(output.stdout).unwrap();
     assert!(
-        text.ends_with(": all hold (cases: 6, refusals: 0)\n"),
+        text.ends_with(": all hold (cases: 7, refusals: 0)\n"),
         "{text}"
     );
 }

@@ -2,7 +2,7 @@
 //!
 //! Most are questions of rounds and rotation asked again with BlaMka, so that two lines show what the mixer alone changes.
 
-use super::accepted::Shape;
+use super::accepted::{listed_in_full, Shape};
 use super::case::Question;
 use super::random::Random;
 use super::settings::{self, with};
@@ -15,6 +15,7 @@ const BLAMKA: Option<Mixer> = Some(Mixer::BlaMka);
 /// All groups, one after the other.
 pub fn accepted() -> Vec<Question> {
     [
+        usual_in_full(),
         settings::in_full(BLAMKA),
         limits_of_pairs(),
         settings::plain_contents(PLAIN),
@@ -29,6 +30,18 @@ pub fn accepted() -> Vec<Question> {
         settings::random(BLAMKA, 42, 30),
     ]
     .concat()
+}
+
+/// The usual rounds and rotation, with visits and without.
+fn usual_in_full() -> Vec<Question> {
+    let usual = with(BLAMKA, 1, 2);
+    let smallest = Shape {
+        r: 3,
+        c: 1,
+        ..usual
+    };
+    let setup_alone = Shape { t: 0, ..usual };
+    listed_in_full(44, &[smallest, usual, setup_alone])
 }
 
 /// The pairs in which the rounds, the rotation or both are at a limit.
