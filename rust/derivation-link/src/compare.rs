@@ -14,7 +14,7 @@ use std::fmt::{Debug, LowerHex};
 pub struct Compared {
     /// The six numbers of the input.
     pub sizes: Parameters,
-    /// Rounds and rotation.
+    /// Rounds, rotation and mixer.
     pub settings: Settings,
     /// What both programs answered to the recorded derivation, which alone has all the checks of a derivation.
     pub answer: Result<Recorded, Refusal>,
@@ -56,7 +56,9 @@ const LINES: usize = 4;
 /// Makes the comparison of a seed: both derivations, the cost question, three checks, and some login lines.
 pub fn compare(subject: &impl Subject, seed: u64) -> Result<Compared, String> {
     let mut random = Random::new(seed);
-    let sizes = draw_sizes(&mut random);
+    let mut sizes = draw_sizes(&mut random);
+    // From draws of its own: all else of a seed is what it was before the mixer was a setting.
+    sizes.settings.mixer = random::mixer(&mut Random::new(!seed));
     let lent = Lent {
         password: Guarded::random(&mut random, sizes.given.password_len as usize, byte),
         salt: Guarded::random(&mut random, sizes.given.salt_len as usize, byte),
@@ -81,8 +83,8 @@ pub fn compare(subject: &impl Subject, seed: u64) -> Result<Compared, String> {
     })
 }
 
-/// Lengths from everywhere between their limits; T, R and C mostly small, so that a run gets far. The settings are
-/// the usual ones half the time.
+/// Lengths from everywhere between their limits; T, R and C mostly small, so that a run gets far. Rounds and rotation are
+/// the usual ones half the time, and the mixer is the plain one.
 fn draw_sizes(random: &mut Random) -> Sizes {
     let given = Parameters {
         key_len: random.between(1, 1024),

@@ -10,13 +10,14 @@ use lyra2_reference::input::{padded_input, BLOCK_BYTES};
 use lyra2_reference::sponge::State;
 use lyra2_reference::vectors::random::{self, Random};
 use lyra2_reference::vectors::Subject;
-use lyra2_reference::{Inputs, Parameters, Settings};
+use lyra2_reference::{Inputs, Mixer, Parameters, Settings};
 use std::collections::BTreeMap;
 
 const TIME_COSTS: [u64; 4] = [0, 1, 2, 3];
 const ROWS: [u64; 6] = [3, 4, 5, 8, 19, 40];
 const COLUMNS: [u64; 4] = [1, 2, 5, 8];
-/// Pairs at each T, R and C.
+const MIXERS: [Mixer; 2] = [Mixer::Plain, Mixer::BlaMka];
+/// Pairs at each T, R and C with each mixer.
 const PAIRS: usize = 2;
 
 /// What a derivation is made from.
@@ -32,7 +33,7 @@ struct Input {
 }
 
 impl Input {
-    /// Random bytes and settings; the lengths and the key length take one byte each in the input.
+    /// Random bytes, rounds and rotation; the lengths and the key length take one byte each in the input.
     fn random(random: &mut Random, [t, r, c]: [u64; 3]) -> Input {
         let (password_len, salt_len) = (random.between(1, 200), random.between(8, 63));
         Input {
@@ -167,30 +168,41 @@ fn differing_blocks(x: &Input, y: &Input) -> Vec<usize> {
     differing.map(|(number, _)| number).collect()
 }
 
-/// Compares the end states of random inputs with those of changed ones, one block apart, and prints how
-/// many pairs differ in which parts.
+/// Compares the end states of random inputs with those of changed ones, one block apart and with the same mixer, and
+/// prints how many pairs differ in which parts.
 fn tell_apart(
     seed: u64,
     draw: fn(&mut Random, [u64; 3]) -> Input,
     change: fn(&mut Input, &mut Random),
 ) {
-    let mut random = Random::new(seed);
+    for mixer in MIXERS {
+        tell_apart_with(mixer, &mut Random::new(seed), draw, change);
+    }
+}
+
+fn tell_apart_with(
+    mixer: Mixer,
+    random: &mut Random,
+    draw: fn(&mut Random, [u64; 3]) -> Input,
+    change: fn(&mut Input, &mut Random),
+) {
     let mut told_by = BTreeMap::new();
     for shape in shapes().flat_map(|shape| [shape; PAIRS]) {
-        let one = draw(&mut random, shape);
+        let mut one = draw(random, shape);
+        one.settings.mixer = mixer;
         let mut other = one.clone();
-        change(&mut other, &mut random);
+        change(&mut other, random);
         let blocks = differing_blocks(&one, &other);
         assert_eq!(blocks.len(), 1, "{one:?} and {other:?}: {blocks:?}");
         let [x, y] = [&one, &other].map(|input| {
-            let mut lent = Buffers::random(&mut random, input);
+            let mut lent = Buffers::random(random, input);
             end_state(input, &mut lent)
         });
         let parts = differing_parts(&x, &y);
         assert!(!parts.is_empty(), "{one:?} and {other:?} end alike");
         *told_by.entry(parts).or_insert(0) += 1;
     }
-    println!("pairs, by the parts in which they differ: {told_by:?}");
+    println!("{mixer:?}: pairs, by the parts in which they differ: {told_by:?}");
 }
 
 fn flip_one_bit(bytes: &mut [u8], random: &mut Random) {
@@ -233,8 +245,9 @@ fn a_byte_moved_from_the_password_to_the_salt() {
 #[test]
 fn one_input_over_any_buffers() {
     let mut random = Random::new(5);
-    for shape in shapes() {
-        let input = Input::random(&mut random, shape);
+    for (shape, mixer) in shapes().flat_map(|shape| MIXERS.map(|mixer| (shape, mixer))) {
+        let mut input = Input::random(&mut random, shape);
+        input.settings.mixer = mixer;
         let mut first = Buffers::filled(&input, 0, 0);
         let due = end_state(&input, &mut first);
         // The first of these hold what the call before has left.
@@ -253,7 +266,7 @@ fn one_input_over_any_buffers() {
 }
 
 /// An input of two blocks: the first has the password and the salt, the second the six numbers.
-fn two_blocks() -> Input {
+fn two_blocks(mixer: Mixer) -> Input {
     Input {
         password: b"correct horse battery staple and a donkey too".to_vec(),
         salt: b"nineteen salt bytes".to_vec(),
@@ -261,61 +274,64 @@ fn two_blocks() -> Input {
         t: 1,
         r: 4,
         c: 2,
-        settings: Settings::USUAL,
+        settings: Settings {
+            mixer,
+            ..Settings::USUAL
+        },
     }
 }
 
-/// An input that differs from the one above in this block alone is accepted too, and ends otherwise.
-fn assert_told_by_block(other: &Input, block: usize) {
-    let inputs = [&two_blocks(), other];
-    let [x, y] = inputs.map(|input| end_state(input, &mut Buffers::filled(input, 0, 0)));
+/// The end states of an input and of the changed one, which differ in this block alone and are both accepted.
+fn ends_one_block_apart(one: Input, change: fn(&mut Input), block: usize) -> [EndState; 2] {
+    let mut other = one.clone();
+    change(&mut other);
+    let inputs = [&one, &other];
     assert_eq!(inputs.map(|input| input.padded().len()), [128; 2]);
-    assert_eq!(differing_blocks(inputs[0], inputs[1]), [block]);
-    assert_eq!(differing_parts(&x, &y), ["state", "matrix", "record"]);
+    assert_eq!(differing_blocks(&one, &other), [block]);
+    inputs.map(|input| end_state(input, &mut Buffers::filled(input, 0, 0)))
+}
+
+/// An input that differs from the one above in this block alone ends otherwise, with either mixer.
+fn assert_told_by_block(change: fn(&mut Input), block: usize) {
+    for mixer in MIXERS {
+        let [x, y] = ends_one_block_apart(two_blocks(mixer), change, block);
+        assert_eq!(differing_parts(&x, &y), ["state", "matrix", "record"]);
+    }
 }
 
 /// The last letters of the passwords, o and n, are one bit apart.
 #[test]
 fn two_inputs_whose_first_blocks_differ() {
-    let password = b"correct horse battery staple and a donkey ton".to_vec();
-    let other = Input {
-        password,
-        ..two_blocks()
+    let last_letter = |input: &mut Input| {
+        input.password = b"correct horse battery staple and a donkey ton".to_vec();
     };
-    assert_told_by_block(&other, 0);
+    assert_told_by_block(last_letter, 0);
 }
 
 /// The key lengths, 32 and 33, are one bit apart.
 #[test]
 fn two_inputs_whose_second_blocks_differ() {
-    let other = Input {
-        key_len: 33,
-        ..two_blocks()
-    };
-    assert_told_by_block(&other, 1);
+    assert_told_by_block(|input| input.key_len = 33, 1);
 }
 
 /// Without visits the records are empty, and state and matrix alone tell two inputs apart.
 #[test]
 fn two_inputs_without_visits() {
-    let one = Input {
-        t: 0,
-        ..two_blocks()
-    };
-    let other = Input {
-        key_len: 33,
-        ..one.clone()
-    };
-    let [x, y] = [&one, &other].map(|input| end_state(input, &mut Buffers::filled(input, 0, 0)));
-    assert_eq!(differing_blocks(&one, &other), [1]);
-    assert_eq!([x.used_record.len(), y.used_record.len()], [0, 0]);
-    assert_eq!(differing_parts(&x, &y), ["state", "matrix"]);
+    for mixer in MIXERS {
+        let setup_alone = Input {
+            t: 0,
+            ..two_blocks(mixer)
+        };
+        let [x, y] = ends_one_block_apart(setup_alone, |input| input.key_len = 33, 1);
+        assert_eq!([x.used_record.len(), y.used_record.len()], [0, 0]);
+        assert_eq!(differing_parts(&x, &y), ["state", "matrix"]);
+    }
 }
 
 /// The comparison above sees one changed bit in the last word of each part.
 #[test]
 fn every_part_is_compared() {
-    let input = two_blocks();
+    let input = two_blocks(Mixer::Plain);
     let end = end_state(&input, &mut Buffers::filled(&input, 0, 0));
     let parts: [(&str, Part); 3] = [
         ("state", |end| &mut end.state),

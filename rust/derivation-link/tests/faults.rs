@@ -5,7 +5,7 @@ use derivation_link::Proved;
 use lyra2_reference::refusal::ROTATIONS;
 use lyra2_reference::vectors::Subject;
 use lyra2_reference::{
-    Checked, Counts, Inputs, LineParts, LineValues, Parameters, Recorded, Refusal, Settings,
+    Checked, Counts, Inputs, LineParts, LineValues, Mixer, Parameters, Recorded, Refusal, Settings,
 };
 
 #[derive(Clone, Copy, Debug, PartialEq, Eq)]
@@ -65,6 +65,12 @@ enum Fault {
     ReducedCallCountedOnce,
     CostOfOneRound,
     CostAcceptsNoRound,
+    MixerIgnored,
+    MixersExchanged,
+    PlainWithOtherRounds,
+    BlaMkaRefused,
+    RecordedMixerIgnored,
+    CheckMixerIgnored,
     LinesMissing,
     NewlineTaken,
     LeadingZeroTaken,
@@ -121,7 +127,14 @@ impl Faulty {
             (Rotation12As11, 12..) => 11,
             (Rotation11Refused, 11) => 12,
             (RotationModulo12, _) => omega % 12,
+            (BlaMkaRefused, _) if mixer == Mixer::BlaMka => 12,
             _ => omega,
+        };
+        let mixer = match (self.0, mixer) {
+            (MixerIgnored, _) | (MixersExchanged, Mixer::BlaMka) => Mixer::Plain,
+            (MixersExchanged, Mixer::Plain) => Mixer::BlaMka,
+            (PlainWithOtherRounds, _) if rho != 1 => Mixer::Plain,
+            _ => mixer,
         };
         Settings { rho, omega, mixer }
     }
@@ -144,6 +157,15 @@ impl Faulty {
     }
 }
 
+/// The inputs, with the plain mixer if so wanted.
+fn plain_if<'a>(wanted: bool, inputs: &Inputs<'a>) -> Inputs<'a> {
+    let mut inputs = *inputs;
+    if wanted {
+        inputs.settings.mixer = Mixer::Plain;
+    }
+    inputs
+}
+
 /// Puts the end matrix where an accepted call has wiped it.
 fn leave_end_matrix(inputs: &Inputs, key_len: usize, matrix: &mut [u64]) {
     let mut record = vec![0; inputs.parameters(key_len).record_words() as usize];
@@ -161,7 +183,8 @@ impl Subject for Faulty {
     ) -> Option<Result<Recorded, Refusal>> {
         let given = inputs.parameters(key.len());
         let used = given.record_words() as usize;
-        let mut answer = Proved.derive_recorded(inputs, key, matrix, record)?;
+        let inputs = plain_if(self.0 == RecordedMixerIgnored, inputs);
+        let mut answer = Proved.derive_recorded(&inputs, key, matrix, record)?;
         match (&mut answer, self.0) {
             (Ok(_), RecordedLastKeyByte) => key[key.len() - 1] ^= 1,
             (Ok(_), RecordedFirstMatrixWord) => matrix[0] ^= 1,
@@ -236,7 +259,11 @@ impl Subject for Faulty {
     ) -> Result<Checked, Refusal> {
         let before = matrix.to_vec();
         let mut key = vec![0; stored.len()];
-        let answer = Proved.check(inputs, stored, matrix);
+        let answer = Proved.check(
+            &plain_if(self.0 == CheckMixerIgnored, inputs),
+            stored,
+            matrix,
+        );
         if answer.is_err() && self.0 == CheckWipesOnRefusal {
             matrix.fill(0);
         }
@@ -401,6 +428,12 @@ fn every_fault_is_noticed() {
         ReducedCallCountedOnce,
         CostOfOneRound,
         CostAcceptsNoRound,
+        MixerIgnored,
+        MixersExchanged,
+        PlainWithOtherRounds,
+        BlaMkaRefused,
+        RecordedMixerIgnored,
+        CheckMixerIgnored,
         LinesMissing,
         NewlineTaken,
         LeadingZeroTaken,

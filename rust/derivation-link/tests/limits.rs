@@ -5,9 +5,10 @@
 
 use derivation_link::{input, size, sizes};
 use lyra2_reference::vectors::{Reference, Subject};
-use lyra2_reference::{derive_recorded, Counts, Inputs, Parameters, Settings};
+use lyra2_reference::{derive_recorded, Counts, Inputs, Mixer, Parameters, Settings};
 
 const MAX: u64 = usize::MAX as u64;
+const MIXERS: [Mixer; 2] = [Mixer::Plain, Mixer::BlaMka];
 /// What the lent places hold before a call.
 const BYTE: u8 = 0xa5;
 const WORD: u64 = 0xa5a5_a5a5_a5a5_a5a5;
@@ -310,17 +311,40 @@ fn settings_without_visits() {
         assert_eq!(numbers(call), [14, 14, 14, 0]);
     }
     for (rho, omega) in [(1, 1), (1, 11), (12, 1), (12, 11)] {
-        let settings = Settings {
-            rho,
-            omega,
-            ..Settings::USUAL
-        };
-        for (r, c) in [(3, 1), (4, 2), (40, 7)] {
-            assert_fits_exactly(Call {
-                settings,
-                ..fitting(0, r, c)
-            });
+        for mixer in MIXERS {
+            let settings = Settings { rho, omega, mixer };
+            for (r, c) in [(3, 1), (4, 2), (40, 7)] {
+                assert_fits_exactly(Call {
+                    settings,
+                    ..fitting(0, r, c)
+                });
+            }
         }
+    }
+}
+
+/// No limit depends on the mixer: with BlaMka too the call of each limit is accepted.
+#[test]
+fn limits_with_blamka() {
+    let sizes: [fn(&mut Call); 6] = [
+        |call| call.key = 1,
+        |call| call.key = 1024,
+        |call| call.password = 0,
+        |call| call.password = 1024,
+        |call| call.salt = 8,
+        |call| call.salt = 64,
+    ];
+    for change in sizes {
+        let found = changed(|call| {
+            call.settings.mixer = Mixer::BlaMka;
+            change(call);
+        });
+        assert_eq!(found, [0; 4]);
+    }
+    for (t, r, c) in [(0, 3, 1), (255, 3, 1), (1, 16_384, 1), (1, 3, 256)] {
+        let mut call = fitting(t, r, c);
+        call.settings.mixer = Mixer::BlaMka;
+        assert_fits_exactly(call);
     }
 }
 
@@ -360,8 +384,13 @@ fn of_several_refusals_the_first_in_the_order_is_returned() {
         let first = places.clone().min().expect("the set is not empty");
         let due = CHECKS.map(|count| if first < count { ORDER[first] } else { 0 });
         for high in [false, true] {
-            let found = changed(|call| held.iter().for_each(|n| make_hold(call, *n, high)));
-            assert_eq!(found, due, "{held:?} {high}");
+            for mixer in MIXERS {
+                let found = changed(|call| {
+                    call.settings.mixer = mixer;
+                    held.iter().for_each(|n| make_hold(call, *n, high));
+                });
+                assert_eq!(found, due, "{held:?} {high} {mixer:?}");
+            }
         }
         sets += 1;
     }

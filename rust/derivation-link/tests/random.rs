@@ -4,7 +4,7 @@ use derivation_link::compare::compare;
 use derivation_link::Proved;
 use lyra2_reference::vectors::random::{question, Random};
 use lyra2_reference::vectors::{run, Case, Coverage, Reference};
-use lyra2_reference::{Refusal, Settings};
+use lyra2_reference::{Mixer, Refusal, Settings};
 use std::collections::BTreeSet;
 
 const FIRST_SEED: u64 = 0x4c79_7261_3200;
@@ -18,8 +18,10 @@ struct Met {
     passwords: BTreeSet<u64>,
     salts: BTreeSet<u64>,
     times: BTreeSet<u64>,
-    settings: BTreeSet<(u64, u64)>,
-    refusals: BTreeSet<u8>,
+    /// ρ, ω, and whether the mixer is BlaMka.
+    settings: BTreeSet<(u64, u64, bool)>,
+    /// The number, and whether the mixer is BlaMka.
+    refusals: BTreeSet<(u8, bool)>,
     /// Of login lines; 0 is an accepted one.
     lines: BTreeSet<u8>,
 }
@@ -32,24 +34,30 @@ fn every_length_setting_and_refusal_is_met_and_the_two_programs_agree() {
             .unwrap_or_else(|what| panic!("{what}; `compare-random {seed} 1` repeats it"));
         let number = |answer: &Result<(), Refusal>| answer.err().map_or(0, Refusal::number);
         met.lines.extend(compared.lines.iter().map(number));
+        let Settings { rho, omega, mixer } = compared.settings;
+        let is_blamka = mixer == Mixer::BlaMka;
         if let Err(refusal) = compared.answer {
-            met.refusals.insert(refusal.number());
+            met.refusals.insert((refusal.number(), is_blamka));
             continue;
         }
         met.keys.insert(compared.sizes.key_len);
         met.passwords.insert(compared.sizes.password_len);
         met.salts.insert(compared.sizes.salt_len);
         met.times.insert(compared.sizes.t);
-        let Settings { rho, omega, .. } = compared.settings;
-        met.settings.insert((rho, omega));
+        met.settings.insert((rho, omega, is_blamka));
     }
     assert_eq!(met.keys, (1..=1024).collect());
     assert_eq!(met.passwords, (0..=1024).collect());
     assert_eq!(met.salts, (8..=64).collect());
     assert!((0..=9).all(|t| met.times.contains(&t)));
     let pairs = (1..=12).flat_map(|rho| (1..=11).map(move |omega| (rho, omega)));
-    assert_eq!(met.settings, pairs.collect());
-    assert_eq!(met.refusals, (1..=8).chain([10, 13, 14]).collect());
+    let settings =
+        pairs.flat_map(|(rho, omega)| [false, true].map(|is_blamka| (rho, omega, is_blamka)));
+    assert_eq!(met.settings, settings.collect());
+    let refusals = (1..=8).chain([10, 13, 14]);
+    let with_mixers =
+        refusals.flat_map(|number| [false, true].map(|is_blamka| (number, is_blamka)));
+    assert_eq!(met.refusals, with_mixers.collect());
     assert_eq!(met.lines, [0, 1, 3, 4, 5, 6, 10, 11, 12].into());
 }
 

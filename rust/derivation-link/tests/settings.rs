@@ -1,4 +1,4 @@
-//! Every pair of rounds and rotation through the static library, against the second program.
+//! Every choice of rounds, rotation and mixer through the static library, against the second program.
 //!
 //! A recorded derivation is compared in its key, state, matrix, record and counts; the plain derivation, the check of
 //! the key and of another key, and the cost question are then asked about the same inputs.
@@ -58,40 +58,59 @@ fn assert_agree(question: Question) -> Answer {
     case.answer
 }
 
+/// Every accepted choice of rounds, rotation and mixer.
+fn all_settings() -> impl Iterator<Item = Settings> {
+    let pairs = ROUNDS.flat_map(|rho| ROTATIONS.map(move |omega| (rho, omega)));
+    let with_each =
+        |(rho, omega)| [Mixer::Plain, Mixer::BlaMka].map(|mixer| Settings { rho, omega, mixer });
+    pairs.flat_map(with_each)
+}
+
 #[test]
-fn every_pair_with_several_shapes() {
+fn every_choice_with_several_shapes() {
     let mut random = Random::new(106);
-    for rho in ROUNDS {
-        for omega in ROTATIONS {
-            for shape in SHAPES {
-                let settings = Settings {
-                    rho,
-                    omega,
-                    mixer: Mixer::Plain,
-                };
-                assert_agree(question(&mut random, shape, settings));
-            }
+    for settings in all_settings() {
+        for shape in SHAPES {
+            assert_agree(question(&mut random, shape, settings));
         }
     }
 }
 
-/// One input has another key with each pair, so that none of them can stand for another.
+/// One input has another key with each choice, so that none of them can stand for another.
 #[test]
-fn every_pair_has_a_key_of_its_own() {
+fn every_choice_has_a_key_of_its_own() {
     let mut keys = BTreeSet::new();
-    for rho in ROUNDS {
-        for omega in ROTATIONS {
-            let settings = Settings {
-                rho,
-                omega,
-                mixer: Mixer::Plain,
-            };
-            let question = question(&mut Random::new(106), (1, 5, 3), settings);
-            let Answer::Recorded { key, .. } = assert_agree(question) else {
-                continue;
-            };
-            keys.insert(key);
+    for settings in all_settings() {
+        let question = question(&mut Random::new(106), (1, 5, 3), settings);
+        let Answer::Recorded { key, .. } = assert_agree(question) else {
+            continue;
+        };
+        keys.insert(key);
+    }
+    assert_eq!(keys.len(), 12 * 11 * 2);
+}
+
+/// The mixer changes the key, the state and the matrix of every shape, and never what a derivation costs.
+#[test]
+fn mixers_differ_in_all_but_the_counts() {
+    for shape in SHAPES {
+        for (rho, omega) in [(1, 2), (1, 11), (12, 1), (5, 7)] {
+            let [plain, blamka] = [Mixer::Plain, Mixer::BlaMka].map(|mixer| {
+                let settings = Settings { rho, omega, mixer };
+                let answer = assert_agree(question(&mut Random::new(107), shape, settings));
+                match answer {
+                    Answer::Recorded {
+                        key,
+                        state,
+                        counts,
+                        matrix_sum,
+                        ..
+                    } => (counts, key, state, matrix_sum),
+                    other => panic!("{other:?}"),
+                }
+            });
+            assert_eq!(plain.0, blamka.0);
+            assert!(plain.1 != blamka.1 && plain.2 != blamka.2 && plain.3 != blamka.3);
         }
     }
-    assert_eq!(keys.len(), 12 * 11);
 }

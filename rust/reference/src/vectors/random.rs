@@ -73,6 +73,7 @@ pub fn question(random: &mut Random) -> Question {
     if random.once_in(8) {
         spoil(random, &mut given, &mut key_len, &mut record_words);
     }
+    // Drawn after all else of a question, whose draws are the ones from before the mixer was a setting.
     if let Some(settings) = given.settings.as_mut() {
         settings.mixer = Some(mixer(random));
     }
@@ -100,7 +101,7 @@ pub fn any_pair(random: &mut Random) -> NamedSettings {
     NamedSettings::pair(rho, omega)
 }
 
-/// Either mixer. It is drawn after all else, so that the draws from before it was a setting are the same.
+/// Either mixer.
 pub fn mixer(random: &mut Random) -> Mixer {
     if random.once_in(2) {
         Mixer::BlaMka
