@@ -351,9 +351,9 @@ fn assert_wrong_for(misreading: Misreading, wrong: &[Mixer]) {
 #[test]
 fn products_of_other_numbers_or_taken_otherwise() {
     for misreading in [
-        WholeWordsMultiplied,
         LowBits(31),
         LowBits(33),
+        LowBits(64),
         ProductTimes(1),
         ProductTimes(4),
     ] {

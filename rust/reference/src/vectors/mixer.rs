@@ -6,7 +6,6 @@ use super::accepted::{listed_in_full, Shape};
 use super::case::Question;
 use super::random::Random;
 use super::settings::{self, with};
-use crate::refusal::{ROTATIONS, ROUNDS};
 use crate::settings::Mixer;
 
 const PLAIN: Option<Mixer> = Some(Mixer::Plain);
@@ -46,13 +45,12 @@ fn usual_in_full() -> Vec<Question> {
 
 /// The pairs in which the rounds, the rotation or both are at a limit.
 fn limits_of_pairs() -> Vec<Question> {
-    let pairs = ROUNDS.flat_map(|rho| ROTATIONS.map(move |omega| (rho, omega)));
-    let at_limit = pairs.filter(|(rho, omega)| [1, 12].contains(rho) || [1, 11].contains(omega));
-    settings::of_pairs(BLAMKA, 39, at_limit)
+    let at_limit = |(rho, omega): &(u64, u64)| [1, 12].contains(rho) || [1, 11].contains(omega);
+    settings::of_pairs(BLAMKA, 39, settings::pairs().filter(at_limit))
 }
 
-/// Shapes of the usual rounds and rotation with BlaMka, each with random contents.
-fn usual(seed: u64, shapes: impl Iterator<Item = Shape>) -> Vec<Question> {
+/// A recorded derivation of each shape, with random contents.
+fn recorded(seed: u64, shapes: impl Iterator<Item = Shape>) -> Vec<Question> {
     let mut random = Random::new(seed);
     shapes.map(|shape| shape.recorded(&mut random)).collect()
 }
@@ -72,7 +70,7 @@ fn input_blocks() -> Vec<Question> {
         salt_len,
         ..with(BLAMKA, 1, 2)
     });
-    usual(40, shapes)
+    recorded(40, shapes)
 }
 
 /// The limits, and the lengths around the first multiples of a piece of 96 bytes.
@@ -82,5 +80,5 @@ fn key_lengths() -> Vec<Question> {
         key_len,
         ..with(BLAMKA, 1, 2)
     });
-    usual(41, shapes)
+    recorded(41, shapes)
 }

@@ -12,7 +12,7 @@ use crate::settings::Mixer;
 pub fn accepted() -> Vec<Question> {
     [
         in_full(None),
-        every_pair(),
+        of_pairs(None, 32, pairs()),
         plain_contents(None),
         rows(None),
         corners(None),
@@ -59,10 +59,9 @@ pub(super) fn in_full(mixer: Option<Mixer>) -> Vec<Question> {
     listed_in_full(31, &[&with_visits[..], &without].concat())
 }
 
-/// Every rotation with every number of rounds.
-fn every_pair() -> Vec<Question> {
-    let pairs = ROUNDS.flat_map(|rho| ROTATIONS.map(move |omega| (rho, omega)));
-    of_pairs(None, 32, pairs)
+/// Every number of rounds with every rotation.
+pub(super) fn pairs() -> impl Iterator<Item = (u64, u64)> {
+    ROUNDS.flat_map(|rho| ROTATIONS.map(move |omega| (rho, omega)))
 }
 
 /// A derivation with each of some pairs of rounds and rotation.

@@ -49,9 +49,7 @@ pub enum Misreading {
     RoundsCountedOnce,
     /// ρ and ω follow C in the input, unless they are the usual choice.
     SettingsAbsorbed,
-    /// BlaMka multiplies whole words.
-    WholeWordsMultiplied,
-    /// BlaMka's low halves have this many bits.
+    /// BlaMka multiplies this many low bits and not 32; with 64 it multiplies whole words.
     LowBits(u32),
     /// BlaMka's product is taken this many times.
     ProductTimes(u64),
@@ -150,9 +148,9 @@ impl Derivation {
         let misreading = self.misreading;
         let v = &mut self.state;
         for (first, turns) in [(0, [32, 24]), (2, [16, 63])] {
-            v[a] = sum(misreading, mixer, first, v[a], v[b]);
+            v[a] = added(misreading, mixer, first, v[a], v[b]);
             v[d] = (v[d] ^ v[a]).rotate_right(turns[0]);
-            v[c] = sum(misreading, mixer, first + 1, v[c], v[d]);
+            v[c] = added(misreading, mixer, first + 1, v[c], v[d]);
             v[b] = (v[b] ^ v[c]).rotate_right(turns[1]);
         }
     }
@@ -199,7 +197,7 @@ impl Derivation {
         std::array::from_fn(|j| {
             let words = places.iter().map(|&place| self.cells[place][j]);
             words.fold(0, |x, y| match self.misreading {
-                CellsSummedByMixer => sum(Correct, self.mixer, 0, x, y),
+                CellsSummedByMixer => added(Correct, self.mixer, 0, x, y),
                 _ => x.wrapping_add(y),
             })
         })
@@ -298,13 +296,12 @@ impl Derivation {
 }
 
 /// The addition of this number in G, from 0 on.
-fn sum(misreading: Misreading, mixer: Mixer, number: usize, x: u64, y: u64) -> u64 {
+fn added(misreading: Misreading, mixer: Mixer, number: usize, x: u64, y: u64) -> u64 {
     let plain = x.wrapping_add(y);
     if mixer == Plain || misreading == PlainAddition(number) {
         return plain;
     }
     let (bits, times) = match misreading {
-        WholeWordsMultiplied => (64, 2),
         LowBits(bits) => (bits, 2),
         ProductTimes(times) => (32, times),
         _ => (32, 2),
