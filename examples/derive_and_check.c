@@ -1,6 +1,6 @@
 /*
  * Derives a key from a password and checks it: asks the cost, lends the matrix, derives, checks the key and a wrong
- * one, and wipes what is secret. Rounds and rotation are the usual ones. The password is all of standard input.
+ * one, and wipes what is secret. Rounds, rotation and mixer are the usual ones. The password is all of standard input.
  *
  *     cc -std=c99 -Iinclude examples/derive_and_check.c target/staticlib/libderivation_export.a -o derive_and_check
  *     printf 'correct horse' | ./derive_and_check 'salt of 16 bytes' 1 256 64 32
@@ -75,8 +75,8 @@ static uint32_t check(const struct inputs *in, const uint8_t *stored, uint64_t *
     uint64_t counts[LYRA2_COUNTS];
     uint32_t same = 0;
     uint32_t answer = lyra2_check(in->password, in->password_len, in->salt, in->salt_len, in->time, in->rows,
-                                  in->columns, LYRA2_REDUCED_ROUNDS_USUAL, LYRA2_ROTATION_USUAL, stored, in->key_len,
-                                  matrix, matrix_words, &same, counts);
+                                  in->columns, LYRA2_REDUCED_ROUNDS_USUAL, LYRA2_ROTATION_USUAL, LYRA2_MIXER_USUAL,
+                                  stored, in->key_len, matrix, matrix_words, &same, counts);
     if (answer == LYRA2_ACCEPTED)
         printf("%s\n", same ? "yes" : "no");
     return answer;
@@ -87,8 +87,8 @@ static uint32_t derive_and_check(const struct inputs *in, uint8_t *key, uint64_t
 {
     uint64_t counts[LYRA2_COUNTS];
     uint32_t answer = lyra2_derive(in->password, in->password_len, in->salt, in->salt_len, in->time, in->rows,
-                                   in->columns, LYRA2_REDUCED_ROUNDS_USUAL, LYRA2_ROTATION_USUAL, key, in->key_len,
-                                   matrix, matrix_words, counts);
+                                   in->columns, LYRA2_REDUCED_ROUNDS_USUAL, LYRA2_ROTATION_USUAL, LYRA2_MIXER_USUAL,
+                                   key, in->key_len, matrix, matrix_words, counts);
     if (answer != LYRA2_ACCEPTED)
         return answer;
     printf("key: ");

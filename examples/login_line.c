@@ -7,7 +7,7 @@
  *
  * The first run prints the line and a newline, the second yes or no. The salt is an argument here so that the line is
  * always the same; a program that enrols takes a new one from the system's random source each time, as by getrandom.
- * A line's key is one of the usual rounds and rotation. derive_and_check.c shows better memory for the matrix.
+ * A line's key is one of the usual rounds, rotation and mixer. derive_and_check.c shows better memory for the matrix.
  */
 #include "lyra2.h"
 
@@ -68,7 +68,7 @@ static int enrol(const uint8_t *password, size_t password_len, const char *salt_
     if (matrix == NULL)
         return fail("no memory for the matrix");
     answer = lyra2_derive(password, password_len, salt, salt_len, time, rows, columns, LYRA2_REDUCED_ROUNDS_USUAL,
-                          LYRA2_ROTATION_USUAL, key, key_len, matrix, words, counts);
+                          LYRA2_ROTATION_USUAL, LYRA2_MIXER_USUAL, key, key_len, matrix, words, counts);
     if (answer == LYRA2_ACCEPTED)
         answer = lyra2_line_write(time, rows, columns, salt, salt_len, key, key_len, line, LYRA2_LINE_MAX, &line_len);
     wipe(key, sizeof key);
@@ -98,7 +98,8 @@ static int log_in(const uint8_t *password, size_t password_len, const uint8_t *l
     if (matrix != NULL)
         answer = lyra2_check(password, password_len, salt, value[LYRA2_LINE_SALT_LEN], value[LYRA2_LINE_TIME],
                              value[LYRA2_LINE_ROWS], value[LYRA2_LINE_COLUMNS], LYRA2_REDUCED_ROUNDS_USUAL,
-                             LYRA2_ROTATION_USUAL, key, value[LYRA2_LINE_KEY_LEN], matrix, words, &same, counts);
+                             LYRA2_ROTATION_USUAL, LYRA2_MIXER_USUAL, key, value[LYRA2_LINE_KEY_LEN], matrix, words,
+                             &same, counts);
     wipe(key, sizeof key);
     if (matrix == NULL)
         return fail("no memory for the matrix");

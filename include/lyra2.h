@@ -30,6 +30,9 @@
 
 #include <stddef.h>
 #include <stdint.h>
+#ifndef __cplusplus
+#include <stdbool.h>
+#endif
 
 #if SIZE_MAX != UINT64_MAX
 #error "lyra2.h: the library takes a size_t of 64 bits"
@@ -54,9 +57,13 @@ extern "C" {
 #define LYRA2_ROW0_MIN 3 /* the walk question; the most is rows - 1 */
 
 /*
- * Two settings, with their limits and the usual choice. `rounds` is the guide's rho, the rounds of a reduced call.
+ * Three settings, with their limits and the usual choice. `rounds` is the guide's rho, the rounds of a reduced call.
  * `rotation` is its omega, in words: word j of the rotated output is word (j + rotation) mod 12 of the output, whose
  * words 0, rotation, 2 * rotation and 3 * rotation, each mod 12, pick row0, row1, col0 and col1 of the visits.
+ * `mixer` says how the permutation adds two words a and b, in full and reduced calls alike: plainly, or as BlaMka,
+ * which adds 2 * lo(a) * lo(b) too, where lo is the low 32 bits; carries past bit 63 are dropped. A bool has two values
+ * and no third, so no refusal is about it: any number but 0 that is converted to it becomes true, which is BlaMka.
+ * Another language passes its own form of C's bool, a byte of 0 or 1.
  * A key is checked with the settings that it was made with, and it does not tell them: who takes others than the usual
  * ones keeps them beside it. A login line has no place for them, so its key goes with the usual choice.
  */
@@ -66,6 +73,9 @@ extern "C" {
 #define LYRA2_ROTATION_MIN 1
 #define LYRA2_ROTATION_MAX 11
 #define LYRA2_ROTATION_USUAL 2
+#define LYRA2_MIXER_PLAIN false
+#define LYRA2_MIXER_BLAMKA true
+#define LYRA2_MIXER_USUAL LYRA2_MIXER_PLAIN
 
 /*
  * A login line as text. No line within the limits is longer than LYRA2_LINE_MAX bytes, so outputs of LYRA2_LINE_MAX,
@@ -157,7 +167,7 @@ static inline const char *lyra2_sentence(uint32_t answer)
 LYRA2_ANSWER uint32_t lyra2_derive(
     const uint8_t *password, size_t password_len,
     const uint8_t *salt, size_t salt_len,
-    size_t time, size_t rows, size_t columns, size_t rounds, size_t rotation,
+    size_t time, size_t rows, size_t columns, size_t rounds, size_t rotation, bool mixer,
     uint8_t *key, size_t key_len,
     uint64_t *matrix, size_t matrix_words,
     uint64_t counts[LYRA2_COUNTS]);
@@ -170,7 +180,7 @@ LYRA2_ANSWER uint32_t lyra2_derive(
 LYRA2_ANSWER uint32_t lyra2_derive_recorded(
     const uint8_t *password, size_t password_len,
     const uint8_t *salt, size_t salt_len,
-    size_t time, size_t rows, size_t columns, size_t rounds, size_t rotation,
+    size_t time, size_t rows, size_t columns, size_t rounds, size_t rotation, bool mixer,
     uint8_t *key, size_t key_len,
     uint64_t *matrix, size_t matrix_words,
     uint64_t *record, size_t record_words,
@@ -184,15 +194,15 @@ LYRA2_ANSWER uint32_t lyra2_derive_recorded(
 LYRA2_ANSWER uint32_t lyra2_check(
     const uint8_t *password, size_t password_len,
     const uint8_t *salt, size_t salt_len,
-    size_t time, size_t rows, size_t columns, size_t rounds, size_t rotation,
+    size_t time, size_t rows, size_t columns, size_t rounds, size_t rotation, bool mixer,
     const uint8_t *stored, size_t stored_len,
     uint64_t *matrix, size_t matrix_words,
     uint32_t *same,
     uint64_t counts[LYRA2_COUNTS]);
 
 /*
- * Foretells the counts of a derivation or a check from the lengths and numbers alone; no rotation changes them. Writes
- * the counts.
+ * Foretells the counts of a derivation or a check from the lengths and numbers alone; neither rotation nor mixer
+ * changes them. Writes the counts.
  */
 LYRA2_ANSWER uint32_t lyra2_cost(
     size_t key_len, size_t password_len, size_t salt_len,
