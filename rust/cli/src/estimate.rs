@@ -12,8 +12,8 @@ const TIME: usize = 4;
 /// How often it is timed.
 const TURNS: usize = 3;
 
-/// The expected seconds of a derivation with settings that no check refuses. The small derivation has their rounds and
-/// rotation: how much of a reduced call's time its rounds take depends on the machine.
+/// The expected seconds of a derivation with settings that no check refuses. The small derivation has their rounds,
+/// rotation and mixer: how much of a reduced call's time its rounds take depends on the machine.
 pub fn seconds(settings: Settings, counts: Counts) -> Result<f64, Failure> {
     let parameters = settings.parameters;
     let parameters = Parameters {

@@ -8,9 +8,9 @@ not shown.";
 /// That a password is typed twice.
 pub const TYPED_TWICE: &str = "A typed password is asked for twice.";
 
-/// That a key goes with its rounds and rotation.
+/// That a key goes with its rounds, rotation and mixer.
 pub const SETTINGS: &str =
-    "A key goes with the rounds and the rotation that it was made with, and does not show them: \
+    "A key goes with the rounds, the rotation and the mixer that it was made with, and does not show them: \
 `lyra2 check` has to be given those of `lyra2 derive`.";
 
 /// A line made and used.

@@ -39,7 +39,7 @@ pub struct Input {
     pub password: Secret,
     /// The salt.
     pub salt: Secret,
-    /// T, R, C, the rounds of a reduced call and the rotation.
+    /// T, R, C, the rounds of a reduced call, the rotation and the mixer.
     pub settings: Settings,
 }
 

@@ -13,6 +13,7 @@ mod hex;
 mod input;
 mod line;
 mod memory;
+mod mixer;
 mod options;
 mod outcome;
 mod password;

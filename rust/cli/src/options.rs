@@ -4,12 +4,16 @@
 
 use crate::failure::Failure;
 use crate::hex;
+use crate::mixer;
 use crate::password::{self, Typed};
 use crate::random;
 use crate::reading::{leave_out_newline, read_file};
 use crate::secret::Secret;
+use clap::builder::{PossibleValuesParser, TypedValueParser};
 use clap::{ArgGroup, Args};
-use lyra2::{Parameters, Settings, KEY_LENGTHS, SALT_MAX, USUAL_ROTATION, USUAL_ROUNDS};
+use lyra2::{
+    Mixer, Parameters, Settings, KEY_LENGTHS, SALT_MAX, USUAL_MIXER, USUAL_ROTATION, USUAL_ROUNDS,
+};
 use std::ffi::OsString;
 use std::path::PathBuf;
 
@@ -55,6 +59,9 @@ pub struct SettingsOptions {
     /// The rotation in words, omega, 1 to 11
     #[arg(long, value_name = "N", value_parser = decimal, allow_negative_numbers = true, default_value_t = USUAL_ROTATION)]
     rotation: usize,
+    /// The mixer, plain or blamka, which multiplies and takes longer
+    #[arg(long, value_name = "MIXER", value_parser = mixers(), hide_possible_values = true, default_value = mixer::name(USUAL_MIXER))]
+    mixer: Mixer,
 }
 
 impl SettingsOptions {
@@ -63,6 +70,7 @@ impl SettingsOptions {
             parameters: self.costs.parameters(),
             rounds: self.rounds.rounds,
             rotation: self.rotation,
+            mixer: self.mixer,
         }
     }
 }
@@ -169,6 +177,16 @@ impl PasswordOption {
     pub fn read(&self, typed: Typed) -> Result<Secret, Failure> {
         password::read(self.password_file.as_deref(), typed)
     }
+}
+
+/// A mixer by its name.
+fn mixers() -> impl TypedValueParser<Value = Mixer> {
+    let names = PossibleValuesParser::new(mixer::ALL.map(mixer::name));
+    names.map(|name| {
+        let mut all = mixer::ALL.into_iter();
+        all.find(|&mixer| mixer::name(mixer) == name)
+            .expect("clap takes these names alone")
+    })
 }
 
 /// A number in decimal digits, and nothing beside them. Its limits are the library's to check.

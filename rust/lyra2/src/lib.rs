@@ -44,23 +44,23 @@
 //! # Ok::<(), lyra2::Refusal>(())
 //! ```
 //!
-//! # Rounds and rotation
+//! # Rounds, rotation and mixer
 //!
-//! A reduced call usually has one round, and the rotation is by two words. [`Parameters`] alone stand for that;
-//! [`Settings`] can have up to twelve rounds and any other rotation. The key is another one then, and a check has to go by
-//! the settings that it was made with.
+//! A reduced call usually has one round, the rotation is by two words, and the [`Mixer`] is the plain one. [`Parameters`]
+//! alone stand for that; [`Settings`] can have up to twelve rounds, any other rotation, and BlaMka, which multiplies. The
+//! key is another one then, and a check has to go by the settings that it was made with.
 //!
 //! ```
-//! use lyra2::{check, derive, Parameters, Settings};
+//! use lyra2::{check, derive, Mixer, Parameters, Settings};
 //!
 //! let parameters = Parameters { time: 1, rows: 8, columns: 4 };
-//! let settings = Settings { rounds: 2, rotation: 3, ..parameters.into() };
+//! let settings = Settings { rounds: 2, rotation: 3, mixer: Mixer::BlaMka, ..parameters.into() };
 //! let (mut matrix, mut key) = (parameters.matrix()?, [0; 32]);
 //! let counts = derive(b"password", b"saltsalt", settings, &mut key, &mut matrix)?;
 //!
 //! assert_eq!(counts.rounds, 12 * counts.full + 2 * counts.reduced);
 //! assert!(check(b"password", b"saltsalt", settings, &key, &mut matrix)?.same);
-//! let other = Settings { rotation: 4, ..settings };
+//! let other = Settings { mixer: Mixer::Plain, ..settings };
 //! assert!(!check(b"password", b"saltsalt", other, &key, &mut matrix)?.same);
 //! assert!(!check(b"password", b"saltsalt", parameters, &key, &mut matrix)?.same);
 //! # Ok::<(), Box<dyn std::error::Error>>(())
@@ -69,8 +69,8 @@
 //! # A login line
 //!
 //! A login line is text that holds all that a check needs beside the password: T, R, C, the salt and the key, which goes
-//! with the usual rounds and rotation. docs/LOGIN-LINES.md describes it. The caller lends the outputs; [`LINE_MAX`], [`SALT_MAX`] and [`KEY_MAX`] bytes are
-//! never too few. The line is as secret as the key in it.
+//! with the usual rounds, rotation and mixer. docs/LOGIN-LINES.md describes it. The caller lends the outputs;
+//! [`LINE_MAX`], [`SALT_MAX`] and [`KEY_MAX`] bytes are never too few. The line is as secret as the key in it.
 //!
 //! ```
 //! use lyra2::{check, derive, read_line, write_line, Parameters, KEY_MAX, LINE_MAX, SALT_MAX};
@@ -144,7 +144,7 @@ pub use operations::{
     check, cost, derive, derive_recorded, walk, Checked, Counts, Recorded, STATE_WORDS,
 };
 pub use parameters::{
-    Lengths, Parameters, Settings, CELL_WORDS, COLUMNS, KEY_LENGTHS, PASSWORD_LENGTHS, ROTATIONS,
-    ROUNDS, ROWS, SALT_LENGTHS, TIME_COSTS, USUAL_ROTATION, USUAL_ROUNDS,
+    Lengths, Mixer, Parameters, Settings, CELL_WORDS, COLUMNS, KEY_LENGTHS, PASSWORD_LENGTHS,
+    ROTATIONS, ROUNDS, ROWS, SALT_LENGTHS, TIME_COSTS, USUAL_MIXER, USUAL_ROTATION, USUAL_ROUNDS,
 };
 pub use refusal::Refusal;

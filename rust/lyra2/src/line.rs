@@ -73,7 +73,7 @@ pub fn read_line<'a>(
 /// Writes a line at the start of the output, whose remaining bytes keep their contents, and returns its length. There
 /// is no newline behind it.
 ///
-/// A line goes with the usual rounds and rotation and has no place for others, so it takes [`Parameters`] and no
+/// A line goes with the usual rounds, rotation and mixer and has no place for others, so it takes [`Parameters`] and no
 /// [`Settings`](crate::Settings). What the key was made with is not asked: one that was derived with other settings gives
 /// a line too, but a check by that line holds the usual key against it, and says no.
 ///

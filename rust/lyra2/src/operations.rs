@@ -1,6 +1,6 @@
 //! The operations. Each hands its arguments on to the library and its answer back.
 
-use crate::parameters::{Lengths, Parameters, Settings};
+use crate::parameters::{Lengths, Mixer, Parameters, Settings};
 use crate::refusal::Refusal;
 
 /// Words of the sponge's state.
@@ -56,6 +56,7 @@ fn input<'a>(
         parameters,
         rounds,
         rotation,
+        mixer,
     } = settings.into();
     lyra2_sys::Input {
         password,
@@ -65,6 +66,7 @@ fn input<'a>(
         columns: parameters.columns,
         rounds,
         rotation,
+        blamka: mixer == Mixer::BlaMka,
     }
 }
 
@@ -156,8 +158,8 @@ pub fn check(
     })
 }
 
-/// The cost question: what a derivation or a check spends, with nothing derived. The rotation costs nothing, so only the
-/// rounds of a reduced call are asked for. Refusals, in the order of the checks: 1, 2, 3, 10, 4, 5, 6, 13.
+/// The cost question: what a derivation or a check spends, with nothing derived. Rotation and mixer change no count, so
+/// only the rounds of a reduced call are asked for. Refusals, in the order of the checks: 1, 2, 3, 10, 4, 5, 6, 13.
 pub fn cost(lengths: Lengths, parameters: Parameters, rounds: usize) -> Result<Counts, Refusal> {
     let mut counts = [0; 3];
     let sizes = lyra2_sys::Sizes {

@@ -24,6 +24,8 @@ pub const ROTATIONS: RangeInclusive<usize> = 1..=11;
 pub const USUAL_ROUNDS: usize = 1;
 /// The usual rotation.
 pub const USUAL_ROTATION: usize = 2;
+/// The usual mixer.
+pub const USUAL_MIXER: Mixer = Mixer::Plain;
 
 /// Words of a cell of the matrix.
 pub const CELL_WORDS: usize = 12;
@@ -70,21 +72,33 @@ impl Parameters {
     }
 }
 
+/// How the permutation adds two words a and b, in full and reduced calls alike. Carries past bit 63 are dropped.
+///
+/// The sums of cells are plain with either. No call is refused for its mixer, and none counts other calls or rounds.
+#[derive(Clone, Copy, Debug, PartialEq, Eq)]
+pub enum Mixer {
+    /// a + b.
+    Plain,
+    /// a + b + 2·lo(a)·lo(b), where lo is the low 32 bits. A round takes longer.
+    BlaMka,
+}
+
 /// All that a derivation or a check goes by beside password, salt and key length.
 ///
-/// [`Parameters`] alone stand for the usual choice, [`USUAL_ROUNDS`] and [`USUAL_ROTATION`]; every operation that takes
-/// settings takes them too. Another choice is written as a change of that one:
+/// [`Parameters`] alone stand for the usual choice, [`USUAL_ROUNDS`], [`USUAL_ROTATION`] and [`USUAL_MIXER`]; every
+/// operation that takes settings takes them too. Another choice is written as a change of that one:
 ///
 /// ```
-/// use lyra2::{Parameters, Settings};
+/// use lyra2::{Mixer, Parameters, Settings};
 ///
 /// let parameters = Parameters { time: 1, rows: 64, columns: 16 };
 /// let heavier = Settings { rounds: 4, ..parameters.into() };
 /// assert_eq!((heavier.parameters, heavier.rotation), (parameters, 2));
+/// assert_eq!(heavier.mixer, Mixer::Plain);
 /// ```
 ///
-/// Unlike T, R and C the rounds and the rotation are not absorbed with the input, and no key shows which they were. Who
-/// stores a key of another choice stores the choice beside it; a login line has no room for it.
+/// Unlike T, R and C the rounds, the rotation and the mixer are not absorbed with the input, and no key shows which they
+/// were. Who stores a key of another choice stores the choice beside it; a login line has no room for it.
 #[derive(Clone, Copy, Debug, PartialEq, Eq)]
 pub struct Settings {
     /// T, R and C, which give the sizes of matrix and record.
@@ -95,6 +109,8 @@ pub struct Settings {
     /// by the words 0, ω, 2·ω and 3·ω of the output, each mod 12. With T = 0 and R up to 4 nothing that was rotated is
     /// read again, and all rotations give one key.
     pub rotation: usize,
+    /// The mixer.
+    pub mixer: Mixer,
 }
 
 /// The usual choice.
@@ -104,6 +120,7 @@ impl From<Parameters> for Settings {
             parameters,
             rounds: USUAL_ROUNDS,
             rotation: USUAL_ROTATION,
+            mixer: USUAL_MIXER,
         }
     }
 }

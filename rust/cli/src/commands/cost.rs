@@ -11,11 +11,12 @@ use lyra2::{Lengths, Settings};
 #[derive(Args)]
 #[command(after_help = help::paragraphs(&[
     "The full calls, the reduced calls and the rounds of a derivation with these numbers are printed, the bytes of the \
-     matrix and of the visit record, and the expected seconds. No password is asked for, and no rotation, which costs \
-     nothing.",
-    "The seconds are an estimate: a derivation with the same rounds of a reduced call over a matrix of at most 6 MiB is \
-     timed three times on the spot, and its median is scaled by the number of reduced calls. Setting memory aside comes \
-     on top, and a matrix beyond the processor's caches or a busy machine takes longer.",
+     matrix and of the visit record, and the expected seconds. No password is asked for, and neither rotation nor \
+     mixer, which change no count.",
+    "The seconds are an estimate: a derivation with the same rounds of a reduced call and the plain mixer over a matrix of \
+     at most 6 MiB is timed three times on the spot, and its median is scaled by the number of reduced calls. Setting \
+     memory aside comes on top, and a matrix beyond the processor's caches, a busy machine or the mixer blamka takes \
+     longer.",
     help::STATUS,
 ]))]
 pub struct Cost {

@@ -16,7 +16,7 @@ use std::path::PathBuf;
 #[derive(Args)]
 #[command(after_help = help::paragraphs(&[
     "The line is $lyra2$t=T,r=R,c=C$SALT$KEY and all that `lyra2 login` needs beside the password; docs/LOGIN-LINES.md \
-     describes it. It goes with the usual rounds and rotation of `lyra2 derive`. Whoever has it has the key.",
+     describes it. It goes with the usual rounds, rotation and mixer of `lyra2 derive`. Whoever has it has the key.",
     "The salt is 16 bytes from the system's random source, or as many as --salt-length says, unless one is given.",
     help::LINE_EXAMPLE,
     "The file of --output is written beside FILE, readable for its owner alone, and takes its name once it is whole, as \

@@ -18,8 +18,8 @@ use std::path::PathBuf;
     "The state after the last visit, the used matrix and the used record are written to FILE, and the file's length and \
      checksum are printed. With T = 0 there is no visit: the state is that after Setup, and the record is empty. `lyra2 \
      compare` compares two such files; docs/END-STATES.md describes them.",
-    "The file says T, R, C, the rounds of a reduced call and the rotation. Both sides of a trial agree on all five \
-     beforehand.",
+    "The file says T, R, C, the rounds of a reduced call, the rotation and the mixer. Both sides of a trial agree on all \
+     six beforehand.",
     "Whoever has the file can make the key, and often compute the password: use a password that opens nothing.",
     "The file is written beside FILE, readable for its owner alone, and takes its name once it is whole: a file or a link \
      that is there is then replaced, and stays if anything goes wrong. A folder, a device or a pipe, or a link to one as \

@@ -60,9 +60,7 @@ pub fn compare(first: &Path, second: &Path) -> Result<Comparison, Failure> {
     first.close()?;
     second.close()?;
     Ok(Comparison {
-        header: Part::of(header_difference(&header, &other), |at| {
-            format!("{}: {}", FIELDS[at.place as usize], at.decimal())
-        }),
+        header: header_part(&header, &other),
         state: Part::of(state, |at| {
             format!("word {}: {}", at.place, at.hexadecimal())
         }),
@@ -94,12 +92,13 @@ fn skip(file: &mut Reader, header: &Header) -> Result<(), Failure> {
     Ok(())
 }
 
-fn header_difference(header: &Header, other: &Header) -> Option<Difference> {
-    let pairs = (0..).zip(header.fields().into_iter().zip(other.fields()));
-    let mut differing = pairs.filter(|(_, (x, y))| x != y);
-    differing.next().map(|(place, (x, y))| Difference {
-        place,
-        found: [x, y],
+/// Compares the headers field by field.
+fn header_part(header: &Header, other: &Header) -> Part {
+    let (fields, others) = (header.fields(), other.fields());
+    let differing = (0..FIELDS.len()).find(|&place| fields[place] != others[place]);
+    differing.map_or(Part::Equal, |place| {
+        let [first, second] = [header, other].map(|header| header.shown(place));
+        Part::Parts(format!("{}: {first} and {second}", FIELDS[place]))
     })
 }
 

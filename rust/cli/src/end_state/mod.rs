@@ -5,14 +5,17 @@ pub mod compare;
 pub mod read;
 pub mod write;
 
+use crate::mixer;
 use lyra2::{
-    Counts, Parameters, Settings, COLUMNS, KEY_LENGTHS, ROTATIONS, ROUNDS, ROWS, STATE_WORDS,
-    TIME_COSTS, USUAL_ROTATION, USUAL_ROUNDS,
+    Counts, Mixer, Parameters, Settings, COLUMNS, KEY_LENGTHS, ROTATIONS, ROUNDS, ROWS,
+    STATE_WORDS, TIME_COSTS, USUAL_ROTATION, USUAL_ROUNDS,
 };
 use std::ops::RangeInclusive;
 
 /// The first eight bytes.
 const MAGIC: u64 = u64::from_le_bytes(*b"LYRA2END");
+/// The name of the field that is told in words.
+const MIXER: &str = "mixer";
 /// The names of the header's fields, which follow the first bytes and the version.
 const FIELDS: [&str; 10] = [
     "T",
@@ -20,17 +23,19 @@ const FIELDS: [&str; 10] = [
     "C",
     "rho",
     "omega",
-    "mixer",
+    MIXER,
     "key length",
     "full calls",
     "reduced calls",
     "rounds",
 ];
 
-/// The number of the plain mixer, the only one that there is.
-const PLAIN_MIXER: u64 = 0;
 /// The rho, omega and mixer of every file of version 1, which has no words for them.
-const OF_VERSION_1: [u64; 3] = [USUAL_ROUNDS as u64, USUAL_ROTATION as u64, PLAIN_MIXER];
+const OF_VERSION_1: [u64; 3] = [
+    USUAL_ROUNDS as u64,
+    USUAL_ROTATION as u64,
+    mixer::number(Mixer::Plain),
+];
 
 /// A form of the file.
 #[derive(Clone, Copy)]
@@ -61,7 +66,7 @@ impl Version {
 /// What stands before the state.
 #[derive(Clone, Copy)]
 pub struct Header {
-    /// T, R, C, rho and omega.
+    /// T, R, C, rho, omega and the mixer.
     pub settings: Settings,
     /// Bytes of the key.
     pub key_length: usize,
@@ -76,6 +81,7 @@ impl Header {
             parameters,
             rounds,
             rotation,
+            mixer,
         } = self.settings;
         [
             parameters.time as u64,
@@ -83,12 +89,20 @@ impl Header {
             parameters.columns as u64,
             rounds as u64,
             rotation as u64,
-            PLAIN_MIXER,
+            mixer::number(mixer),
             self.key_length as u64,
             self.counts.full,
             self.counts.reduced,
             self.counts.rounds,
         ]
+    }
+
+    /// A field as a comparison tells it.
+    fn shown(&self, place: usize) -> String {
+        match FIELDS[place] {
+            MIXER => mixer::name(self.settings.mixer).to_string(),
+            _ => self.fields()[place].to_string(),
+        }
     }
 
     /// The header that some fields are, once their numbers are within the limits.
@@ -103,12 +117,8 @@ impl Header {
             parameters,
             rounds: within("rho", rho, ROUNDS)?,
             rotation: within("omega", omega, ROTATIONS)?,
+            mixer: mixer_of(mixer)?,
         };
-        if mixer != PLAIN_MIXER {
-            return Err(format!(
-                "the mixer is {mixer} in its header; {PLAIN_MIXER}, the plain one, is due"
-            ));
-        }
         let counts = Counts {
             full,
             reduced,
@@ -156,5 +166,17 @@ fn within(name: &str, number: u64, limits: RangeInclusive<usize>) -> Result<usiz
         .ok_or_else(|| {
             let (low, high) = (limits.start(), limits.end());
             format!("{name} is {number} in its header; {low} to {high} is due")
+        })
+}
+
+fn mixer_of(number: u64) -> Result<Mixer, String> {
+    let mut all = mixer::ALL.into_iter();
+    all.find(|&mixer| mixer::number(mixer) == number)
+        .ok_or_else(|| {
+            let due = mixer::ALL.map(|it| format!("{} for {}", mixer::number(it), mixer::name(it)));
+            format!(
+                "the mixer is {number} in its header; {} is due",
+                due.join(" or ")
+            )
         })
 }
