@@ -90,13 +90,20 @@ fn options() {
         &format!("{DERIVE} --rotation"),
         "lyra2 derive: --rotation has no value",
     );
-    // A line goes with the usual choice, and the rotation costs nothing.
+    says(
+        &format!("{DERIVE} --mixer plain --mixer plain"),
+        "lyra2 derive: --mixer is given twice",
+    );
+    // A line goes with the usual choice, and rotation and mixer change no count.
     for (line, option) in [
         (LINE, "--rounds"),
         (LINE, "--rotation"),
+        (LINE, "--mixer"),
         ("login --line-file x", "--rounds"),
         ("login --line-file x", "--rotation"),
+        ("login --line-file x", "--mixer"),
         (COST, "--rotation"),
+        (COST, "--mixer"),
     ] {
         let found = lyra2(&words(&format!("{line} {option} 2")), b"pass").failure();
         let due = format!("lyra2 {}: unknown option {option:?}", words(line)[0]);
@@ -182,6 +189,8 @@ fn secrets_in_the_wrong_place() {
         format!("{DERIVE} --password hunter2"),
         format!("{DERIVE} -phunter2"),
         format!("{DERIVE} -p hunter2"),
+        format!("{DERIVE} --mixer=hunter2"),
+        format!("{DERIVE} --mixer hunter2"),
         format!("{DERIVE} --salt=hunter2"),
         format!("{DERIVE} --salt hunter2"),
         DERIVE.replace("0011223344556677", "hunter2"),
@@ -238,6 +247,32 @@ fn numbers() {
             &format!("{DERIVE} {option} {text}"),
             &format!("lyra2 derive: {option}: {text:?} is not a number in decimal digits"),
         );
+    }
+}
+
+/// There are two mixers, and a name that is nearly one of theirs is none.
+#[test]
+fn mixers() {
+    let trial = DERIVE.replace("derive", "trial") + " --output x";
+    let check = format!("{CHECK} --key 00");
+    for line in [DERIVE, &check, &trial] {
+        let name = words(line)[0];
+        for text in [
+            "BlaMka",
+            "Plain",
+            "blake2b",
+            "0",
+            "1",
+            "true",
+            "plain,blamka",
+            "-1",
+        ] {
+            let due = format!("lyra2 {name}: --mixer: one of plain, blamka is due");
+            says(&format!("{line} --mixer={text}"), &due);
+        }
+        let due = format!("lyra2 {name}: --mixer has no value");
+        says(&format!("{line} --mixer"), &due);
+        says(&format!("{line} --mixer="), &due);
     }
 }
 

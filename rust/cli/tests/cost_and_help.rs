@@ -118,7 +118,8 @@ fn every_command_has_its_help_three_ways() {
 /// Each option that a help names is one that the command knows, and the other way round.
 #[test]
 fn the_help_names_the_options_that_there_are() {
-    let options = "password-file salt salt-file time rows columns rounds rotation key-length key \
+    let options =
+        "password-file salt salt-file time rows columns rounds rotation mixer key-length key \
                    key-file output password-length salt-length line-file";
     for command in COMMANDS {
         let help = lyra2(&["help", command], b"").result();
@@ -157,20 +158,23 @@ fn the_manual_page_has_what_the_help_has() {
 
 /// Wherever there is a default, help and manual page say it.
 #[test]
-fn the_usual_rounds_and_rotation_are_said() {
+fn the_usual_settings_are_said() {
     let page = lyra2(&["manual"], b"").result().replace("\\-", "-");
     let parts: Vec<&str> = page.split("\n.SS ").skip(1).collect();
     let (rounds, rotation) = ("1 to 12 [default: 1]", "1 to 11 [default: 2]");
+    let (mixers, mixer) = ("The mixer, plain or blamka,", "[default: plain]");
     for (command, part) in COMMANDS.into_iter().zip(parts) {
         let help = lyra2(&["help", command], b"").result();
-        let has_both = ["derive", "check", "trial"].contains(&command);
+        let has_all = ["derive", "check", "trial"].contains(&command);
         for text in [help.as_str(), part] {
             assert_eq!(
                 text.contains(rounds),
-                has_both || command == "cost",
+                has_all || command == "cost",
                 "{text}"
             );
-            assert_eq!(text.contains(rotation), has_both, "{text}");
+            for words in [rotation, mixers, mixer] {
+                assert_eq!(text.contains(words), has_all, "{text}");
+            }
         }
     }
 }
@@ -182,9 +186,14 @@ fn completions_name_every_command() {
         for command in COMMANDS {
             assert!(script.contains(command), "{shell}: {command}");
         }
-        for option in ["key-length", "rounds", "rotation"] {
+        for option in ["key-length", "rounds", "rotation", "mixer"] {
             assert!(script.contains(option), "{shell}: {option}");
         }
+        // Not every shell's script completes values.
+        let values = ["\"plain blamka\"", "(plain blamka)", "{plain\t,blamka\t}"];
+        let has_values = values.iter().any(|values| script.contains(values));
+        let completes_values = ["bash", "fish", "zsh"].contains(&shell);
+        assert_eq!(has_values, completes_values, "{shell}");
     }
 }
 

@@ -127,13 +127,15 @@ fn the_example_of_an_end_state_file() {
     };
     let (printed, bytes) = run("--time 1");
     let without_visits = run("--time 0").0;
-    let settings = "--rounds 2 --rotation 3";
-    let other = run(&format!("--time 1 {settings}")).0;
     for due in [
         format!("--output example prints `{printed}`."),
         format!("With `--time 0` the same trial prints `{without_visits}`"),
-        format!("With `{settings}` it prints `{other}`"),
     ] {
+        assert!(sentences.contains(&due), "{due}");
+    }
+    for settings in ["--rounds 2 --rotation 3", "--mixer blamka"] {
+        let other = run(&format!("--time 1 {settings}")).0;
+        let due = format!("With `{settings}` it prints `{other}`");
         assert!(sentences.contains(&due), "{due}");
     }
     let shown = shown_bytes(&text);

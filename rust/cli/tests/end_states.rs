@@ -2,10 +2,11 @@
 
 mod common;
 
-use common::end_state::{summed, EndState};
+use common::end_state::{mixer_number, summed, EndState};
 use common::{hex, limited, lyra2, words, Run, TemporaryFile};
 use lyra2_reference::vectors::random::Random;
-use lyra2_reference::{derive_recorded, Inputs, Settings};
+use lyra2_reference::vectors::write::mixer_name;
+use lyra2_reference::{derive_recorded, Inputs, Mixer, Settings};
 
 /// T, R, C and the key length of most trials here.
 const T: u64 = 2;
@@ -67,7 +68,7 @@ fn due_of(t: u64, r: u64, c: u64, settings: Settings, password: &[u8]) -> EndSta
         c,
         rho: settings.rho,
         omega: settings.omega,
-        mixer: 0,
+        mixer: mixer_number(settings.mixer),
         key_length: KEY_LENGTH,
         counts: [counts.full, counts.reduced, counts.rounds],
         state: recorded.state.to_vec(),
@@ -102,21 +103,26 @@ fn a_trial_writes_what_the_second_program_leaves() {
     assert_eq!(compare(&file, &file).result(), "equal\n");
 }
 
-/// With other rounds or another rotation the input is absorbed as before, and the walk is another one: the header says
-/// why, and the parts are compared all the same.
+/// With other rounds or another rotation the input is absorbed as before, and the walk is another one; with another mixer
+/// all is. The header says why, and the parts are compared all the same.
 #[test]
 fn trials_with_other_settings() {
     let usual = trial(b"pass");
-    for (rho, omega, words) in [
-        (2, 2, "rho: 1 and 2"),
-        (12, 2, "rho: 1 and 12"),
-        (1, 1, "omega: 2 and 1"),
-        (1, 11, "omega: 2 and 11"),
-        (3, 5, "rho: 1 and 3"),
+    let (plain, blamka) = (Mixer::Plain, Mixer::BlaMka);
+    for (rho, omega, mixer, words) in [
+        (2, 2, plain, "rho: 1 and 2"),
+        (12, 2, plain, "rho: 1 and 12"),
+        (1, 1, plain, "omega: 2 and 1"),
+        (1, 11, plain, "omega: 2 and 11"),
+        (3, 5, plain, "rho: 1 and 3"),
+        (1, 2, blamka, "mixer: plain and blamka"),
+        (1, 5, blamka, "omega: 2 and 5"),
+        (12, 2, blamka, "rho: 1 and 12"),
     ] {
-        let options = format!("--rounds {rho} --rotation {omega}");
+        let name = mixer_name(mixer);
+        let options = format!("--rounds {rho} --rotation {omega} --mixer {name}");
         let file = trial_of(T, R, C, &options, b"pass");
-        let due = due_of(T, R, C, Settings { rho, omega }, b"pass");
+        let due = due_of(T, R, C, Settings { rho, omega, mixer }, b"pass");
         assert_eq!(file.bytes(), due.write(), "{options}");
         let again = trial_of(T, R, C, &options, b"pass");
         assert_eq!(compare(&file, &again).result(), "equal\n");
@@ -129,7 +135,7 @@ fn trials_with_other_settings() {
         assert!(lines[3].starts_with("matrix: parts at row "), "{run:?}");
         assert!(lines[4].starts_with("record: parts at visit "), "{run:?}");
     }
-    let default = trial_of(T, R, C, "--rounds 1 --rotation 2", b"pass");
+    let default = trial_of(T, R, C, "--rounds 1 --rotation 2 --mixer plain", b"pass");
     assert_eq!(default.bytes(), usual.bytes());
     // Nothing is rotated in the first three rows.
     let [two, seven] = [2, 7].map(|omega| {
@@ -158,6 +164,7 @@ fn a_file_of_version_1_is_equal_to_one_of_version_2() {
     for (options, words) in [
         ("--rounds 2", "rho: 1 and 2"),
         ("--rotation 3", "omega: 2 and 3"),
+        ("--mixer blamka", "mixer: plain and blamka"),
     ] {
         let run = compare(&old, &trial_of(1, 3, 1, options, b"pass"));
         let lines = differing(&run);
@@ -366,8 +373,34 @@ fn header_fields() {
             one_place("header", &words)
         );
     }
-    let (rho, omega) = (12, 11);
+    let (rho, omega, mixer) = (12, 11, 1);
+    let blamka = EndState {
+        mixer,
+        ..end.clone()
+    };
+    assert_eq!(
+        differing(&compared(&blamka, &end)),
+        one_place("header", "mixer: blamka and plain")
+    );
+    assert_eq!(compared(&blamka, &blamka).result(), "equal\n");
     for (other, words) in [
+        (blamka, "mixer: plain and blamka"),
+        (
+            EndState {
+                mixer,
+                key_length: 21,
+                ..end.clone()
+            },
+            "mixer: plain and blamka",
+        ),
+        (
+            EndState {
+                omega,
+                mixer,
+                ..end.clone()
+            },
+            "omega: 2 and 11",
+        ),
         (EndState { rho, ..end.clone() }, "rho: 1 and 12"),
         (
             EndState {
@@ -588,20 +621,24 @@ fn numbers_outside_their_limits() {
     };
     for (other, words) in [
         (with(0, 2, 0), "rho is 0 in its header; 1 to 12 is due"),
-        (with(13, 0, 1), "rho is 13 in its header; 1 to 12 is due"),
+        (with(13, 0, 2), "rho is 13 in its header; 1 to 12 is due"),
         (
             with(1 << 32 | 1, 2, 0),
             "rho is 4294967297 in its header; 1 to 12 is due",
         ),
-        (with(1, 0, 1), "omega is 0 in its header; 1 to 11 is due"),
+        (with(1, 0, 2), "omega is 0 in its header; 1 to 11 is due"),
         (with(12, 12, 0), "omega is 12 in its header; 1 to 11 is due"),
         (
-            with(1, 2, 1),
-            "the mixer is 1 in its header; 0, the plain one, is due",
+            with(1, 2, 2),
+            "the mixer is 2 in its header; 0 for plain or 1 for blamka is due",
+        ),
+        (
+            with(1, 2, 1 << 32 | 1),
+            "the mixer is 4294967297 in its header; 0 for plain or 1 for blamka is due",
         ),
         (
             with(1, 2, u64::MAX),
-            "the mixer is 18446744073709551615 in its header; 0, the plain one, is due",
+            "the mixer is 18446744073709551615 in its header; 0 for plain or 1 for blamka is due",
         ),
     ] {
         assert_eq!(fault(&other.write(), &good), words);

@@ -3,7 +3,8 @@
 mod common;
 
 use common::{hex, lyra2, words, Run, TemporaryFile};
-use lyra2_reference::{derive, Inputs, Settings};
+use lyra2_reference::vectors::write::mixer_name;
+use lyra2_reference::{derive, Inputs, Mixer, Settings};
 
 const COSTS: &str = "--time 1 --rows 4 --columns 2";
 const SALT: &[u8] = b"saltsalt";
@@ -138,32 +139,50 @@ fn key_lengths() {
     }
 }
 
-/// Each key goes with its own rounds and rotation, and the usual ones are those that nobody gives.
+/// Each key goes with its own rounds, rotation and mixer, and the usual ones are those that nobody gives.
 #[test]
-fn rounds_and_rotations() {
-    let choices = [(1, 2), (1, 1), (1, 11), (2, 2), (5, 7), (12, 2), (12, 11)];
-    let options = |(rho, omega)| format!("--rounds {rho} --rotation {omega}");
-    for (rho, omega) in choices {
-        let key = due_with(Settings { rho, omega }, b"pass", SALT, 32);
-        let found = derived(&options((rho, omega)), b"pass").result();
-        assert_eq!(found, key, "{rho} {omega}");
-        for other in choices {
+fn rounds_rotations_and_mixers() {
+    let pairs = [(1, 2), (1, 1), (1, 11), (2, 2), (5, 7), (12, 2), (12, 11)];
+    let mixers = [Mixer::Plain, Mixer::BlaMka];
+    let of = |(rho, omega)| mixers.map(|mixer| Settings { rho, omega, mixer });
+    let choices = pairs.map(of).concat();
+    let options = |settings: Settings| {
+        let Settings { rho, omega, mixer } = settings;
+        let name = mixer_name(mixer);
+        format!("--rounds {rho} --rotation {omega} --mixer {name}")
+    };
+    for &settings in &choices {
+        let key = due_with(settings, b"pass", SALT, 32);
+        let found = derived(&options(settings), b"pass").result();
+        assert_eq!(found, key, "{settings:?}");
+        for &other in &choices {
             let stored = format!("--key {key} {}", options(other));
             let run = checked(&stored, b"pass");
-            let due = match other == (rho, omega) {
+            let due = match other == settings {
                 true => (Some(0), "yes\n"),
                 false => (Some(1), "no\n"),
             };
             assert_eq!(
                 (run.status, run.output.as_str()),
                 due,
-                "{rho} {omega} {other:?}"
+                "{settings:?} {other:?}"
             );
         }
     }
+    let usual = Settings::USUAL;
+    let [rho, omega, mixer] = [
+        Settings { rho: 3, ..usual },
+        Settings { omega: 3, ..usual },
+        Settings {
+            mixer: Mixer::BlaMka,
+            ..usual
+        },
+    ];
     for (option, settings) in [
-        ("--rounds 3", Settings { rho: 3, omega: 2 }),
-        ("--rotation=3", Settings { rho: 1, omega: 3 }),
+        ("--rounds 3", rho),
+        ("--rotation=3", omega),
+        ("--mixer blamka", mixer),
+        ("--mixer=plain", usual),
     ] {
         let key = due_with(settings, b"pass", SALT, 32);
         assert_eq!(derived(option, b"pass").result(), key);

@@ -5,9 +5,10 @@
 
 mod common;
 
-use common::end_state::EndState;
+use common::end_state::{mixer_number, EndState};
 use common::{hex, lyra2, Run, TemporaryFile};
-use lyra2_reference::vectors::{checksum, read, Answer, Case, Given, Question};
+use lyra2_reference::vectors::write::mixer_name;
+use lyra2_reference::vectors::{checksum, read, Answer, Case, Given, NamedSettings, Question};
 use lyra2_reference::{check, Counts, Inputs, Refusal, Settings};
 
 const FILE: &str = concat!(env!("CARGO_MANIFEST_DIR"), "/../../vectors/lyra2.txt");
@@ -39,7 +40,7 @@ fn can_be_asked(case: &Case) -> bool {
 }
 
 /// Runs a command on the inputs of a case: the password by standard input or by a file, and the salt by the
-/// command line or by a file, in turn. Rounds and rotation are given where the line has them.
+/// command line or by a file, in turn. The settings are given where the line has them.
 fn run_on(command: &str, given: &Given, number: u64, others: &[String]) -> Run {
     let (mut password, salt) = (given.password.to_vec(), given.salt.to_vec());
     let password_file = TemporaryFile::holding(&password);
@@ -52,9 +53,10 @@ fn run_on(command: &str, given: &Given, number: u64, others: &[String]) -> Run {
         ],
     ]
     .concat();
-    if let Some(Settings { rho, omega }) = given.settings {
+    if let Some(NamedSettings { rho, omega, mixer }) = given.settings {
         arguments.push(format!("--rounds={rho}"));
         arguments.push(format!("--rotation={omega}"));
+        arguments.extend(mixer.map(|mixer| format!("--mixer={}", mixer_name(mixer))));
     }
     arguments.extend_from_slice(others);
     if number.is_multiple_of(2) {
@@ -167,8 +169,11 @@ fn assert_end_state(case: &Case, found: &EndState) {
     let Question::DeriveRecorded { given, .. } = &case.question else {
         panic!("case {} has another operation's question", case.number);
     };
-    let Settings { rho, omega } = given.settings();
-    assert_eq!((found.rho, found.omega, found.mixer), (rho, omega, 0));
+    let Settings { rho, omega, mixer } = given.settings();
+    assert_eq!(
+        (found.rho, found.omega, found.mixer),
+        (rho, omega, mixer_number(mixer))
+    );
     assert_eq!(found.state, state, "case {}", case.number);
     assert_eq!(found.counts, listed(counts), "case {}", case.number);
     let sums = [&found.matrix, &found.record].map(|words| checksum::of_words(words));

@@ -1,9 +1,9 @@
 //! The crate's constants and sizes against what the library accepts, and the refusals' words.
 
 use lyra2::{
-    check, cost, derive, derive_recorded, walk, Lengths, Parameters, Refusal, Settings, COLUMNS,
-    KEY_LENGTHS, PASSWORD_LENGTHS, ROTATIONS, ROUNDS, ROWS, SALT_LENGTHS, TIME_COSTS,
-    USUAL_ROTATION, USUAL_ROUNDS,
+    check, cost, derive, derive_recorded, walk, Lengths, Mixer, Parameters, Refusal, Settings,
+    COLUMNS, KEY_LENGTHS, PASSWORD_LENGTHS, ROTATIONS, ROUNDS, ROWS, SALT_LENGTHS, TIME_COSTS,
+    USUAL_MIXER, USUAL_ROTATION, USUAL_ROUNDS,
 };
 use std::collections::BTreeSet;
 use std::ops::RangeInclusive;
@@ -18,6 +18,7 @@ const SMALLEST: Parameters = Parameters {
     rows: 3,
     columns: 1,
 };
+const MIXERS: [Mixer; 2] = [Mixer::Plain, Mixer::BlaMka];
 
 /// The numbers within the limits, and none beside them, must be accepted by the library. The refusals are
 /// those of a number below the limits and of one above.
@@ -70,11 +71,16 @@ fn the_named_limits_are_the_librarys() {
 
 /// The three operations that take settings, over a matrix and a record of the smallest size. What a refused call leaves
 /// must be what was there.
-fn with_settings(rounds: usize, rotation: usize) -> [Result<lyra2::Counts, Refusal>; 3] {
+fn with_settings(
+    rounds: usize,
+    rotation: usize,
+    mixer: Mixer,
+) -> [Result<lyra2::Counts, Refusal>; 3] {
     let settings = Settings {
         parameters: SMALLEST,
         rounds,
         rotation,
+        mixer,
     };
     let (mut key, mut matrix, mut record) = ([7; 32], [7; 36], [7; 12]);
     let (password, salt) = (b"", b"saltsalt");
@@ -98,35 +104,37 @@ fn with_settings(rounds: usize, rotation: usize) -> [Result<lyra2::Counts, Refus
 #[test]
 fn the_named_limits_of_rounds_and_rotation_are_the_librarys() {
     limits_hold(ROUNDS, [Refusal::Rounds; 2], |n| cost(LENGTHS, SMALLEST, n));
-    for place in 0..3 {
+    for (place, mixer) in (0..3).flat_map(|place| MIXERS.map(|mixer| (place, mixer))) {
         limits_hold(ROUNDS, [Refusal::Rounds; 2], |n| {
-            with_settings(n, 11)[place]
+            with_settings(n, 11, mixer)[place]
         });
         limits_hold(ROTATIONS, [Refusal::Rotation; 2], |n| {
-            with_settings(12, n)[place]
+            with_settings(12, n, mixer)[place]
         });
     }
 }
 
-/// Each of the limits' values counts as many rounds as it says, and the rotation none.
+/// Each of the limits' values counts as many rounds as it says, rotation and mixer none.
 #[test]
-fn rounds_are_counted_and_the_rotation_is_not() {
+fn rounds_are_counted_and_rotation_and_mixer_are_not() {
     for rounds in ROUNDS {
         let due = cost(LENGTHS, SMALLEST, rounds).expect("within the limits");
         assert_eq!((due.full, due.reduced), (2, 6));
         assert_eq!(due.rounds, 24 + 6 * rounds as u64);
-        for rotation in ROTATIONS {
-            assert_eq!(with_settings(rounds, rotation), [Ok(due); 3]);
+        for (rotation, mixer) in ROTATIONS.flat_map(|n| MIXERS.map(|mixer| (n, mixer))) {
+            assert_eq!(with_settings(rounds, rotation, mixer), [Ok(due); 3]);
         }
     }
 }
 
 /// Setup rotates while it fills the fourth row, and reads what was rotated while it fills the fifth; so do the visits.
+/// The mixer counts everywhere.
 #[test]
 fn the_rotation_counts_where_it_is_read_again() {
     for (time, rows, due) in [(0, 3, 1), (0, 4, 1), (0, 5, 11), (1, 3, 11)] {
-        let keys: BTreeSet<_> = ROTATIONS
-            .map(|rotation| {
+        let choices = ROTATIONS.flat_map(|rotation| MIXERS.map(|mixer| (rotation, mixer)));
+        let keys: BTreeSet<_> = choices
+            .map(|(rotation, mixer)| {
                 let parameters = Parameters {
                     time,
                     rows,
@@ -134,6 +142,7 @@ fn the_rotation_counts_where_it_is_read_again() {
                 };
                 let settings = Settings {
                     rotation,
+                    mixer,
                     ..parameters.into()
                 };
                 let mut key = [0; 32];
@@ -141,25 +150,39 @@ fn the_rotation_counts_where_it_is_read_again() {
                 key
             })
             .collect();
-        assert_eq!(keys.len(), due, "T = {time}, R = {rows}");
+        assert_eq!(keys.len(), 2 * due, "T = {time}, R = {rows}");
     }
 }
 
 #[test]
 fn parameters_alone_are_the_usual_settings() {
-    assert_eq!((USUAL_ROUNDS, USUAL_ROTATION), (1, 2));
+    assert_eq!(
+        (USUAL_ROUNDS, USUAL_ROTATION, USUAL_MIXER),
+        (1, 2, Mixer::Plain)
+    );
     let usual = Settings {
         parameters: SMALLEST,
         rounds: USUAL_ROUNDS,
         rotation: USUAL_ROTATION,
+        mixer: USUAL_MIXER,
     };
     assert_eq!(Settings::from(SMALLEST), usual);
 }
 
-/// With everything wrong at once the first check refuses; put right one after another, each of them does.
+/// With everything wrong at once the first check refuses; put right one after another, each of them does. The mixer is
+/// nothing to them.
 #[test]
 fn the_first_refusal_is_told() {
-    let right = Settings::from(SMALLEST);
+    for mixer in MIXERS {
+        first_refusals(mixer);
+    }
+}
+
+fn first_refusals(mixer: Mixer) {
+    let right = Settings {
+        mixer,
+        ..SMALLEST.into()
+    };
     let columns = |columns, rounds, rotation| Settings {
         parameters: Parameters {
             columns,
@@ -167,6 +190,7 @@ fn the_first_refusal_is_told() {
         },
         rounds,
         rotation,
+        mixer,
     };
     let mut key = [7; 32];
     for (settings, refusal, cost_refusal) in [
@@ -200,13 +224,13 @@ fn the_first_refusal_is_told() {
 
 #[test]
 fn buffers_of_the_named_sizes_are_accepted_and_shorter_ones_are_not() {
-    for (time, rows, columns, rounds, rotation) in [
-        (0, 3, 1, 1, 2),
-        (0, 40, 9, 12, 11),
-        (1, 3, 1, 1, 1),
-        (2, 5, 7, 2, 6),
-        (255, 3, 2, 3, 2),
-        (1, 300, 16, 1, 2),
+    for (time, rows, columns, rounds, rotation, mixer) in [
+        (0, 3, 1, 1, 2, Mixer::Plain),
+        (0, 40, 9, 12, 11, Mixer::BlaMka),
+        (1, 3, 1, 1, 1, Mixer::Plain),
+        (2, 5, 7, 2, 6, Mixer::BlaMka),
+        (255, 3, 2, 3, 2, Mixer::Plain),
+        (1, 300, 16, 1, 2, Mixer::BlaMka),
     ] {
         let parameters = Parameters {
             time,
@@ -217,6 +241,7 @@ fn buffers_of_the_named_sizes_are_accepted_and_shorter_ones_are_not() {
             parameters,
             rounds,
             rotation,
+            mixer,
         };
         let mut matrix = vec![7; parameters.matrix_words().expect("a small matrix")];
         let mut record = vec![7; parameters.record_words().expect("a small record")];

@@ -1,8 +1,8 @@
 //! Login lines: texts of known bytes, the limits, the sizes to lend, and what is left alone.
 
 use lyra2::{
-    check, derive, read_line, write_line, Parameters, Refusal, Settings, COLUMNS, KEY_LENGTHS,
-    KEY_MAX, LINE_MAX, ROWS, SALT_LENGTHS, SALT_MAX, TIME_COSTS,
+    check, derive, read_line, write_line, Mixer, Parameters, Refusal, Settings, COLUMNS,
+    KEY_LENGTHS, KEY_MAX, LINE_MAX, ROWS, SALT_LENGTHS, SALT_MAX, TIME_COSTS,
 };
 use lyra2_reference::vectors::random::Random;
 use std::ops::RangeInclusive;
@@ -343,7 +343,16 @@ fn a_line_goes_with_the_usual_settings() {
         rotation: 3,
         ..usual
     };
-    for (settings, due) in [(usual, true), (rounds, false), (rotation, false)] {
+    let mixer = Settings {
+        mixer: Mixer::BlaMka,
+        ..usual
+    };
+    for (settings, due) in [
+        (usual, true),
+        (rounds, false),
+        (rotation, false),
+        (mixer, false),
+    ] {
         let (mut key, mut matrix, salt) = ([0; 32], [0; 36], b"saltsalt");
         derive(b"pass", salt, settings, &mut key, &mut matrix).expect("accepted");
         let line = written(settings.parameters, salt, &key, LINE_MAX).expect("within the limits");

@@ -1,7 +1,10 @@
 //! The memory that the crate sets aside has the sizes that it names, and derives the second program's key.
 
-use lyra2::{check, derive, derive_recorded, NoMemory, Parameters, Settings};
-use lyra2_reference::Inputs;
+mod common;
+
+use common::settings;
+use lyra2::{check, derive, derive_recorded, NoMemory, Parameters};
+use lyra2_reference::{Inputs, Mixer, Settings};
 
 const SHAPES: [(usize, usize, usize); 5] = [
     (0, 3, 1),
@@ -40,24 +43,23 @@ fn sizes_without_a_number_are_no_memory() {
 
 #[test]
 fn every_operation_works_in_it() {
-    let choices = [(1, 2), (3, 5), (12, 1), (2, 11), (1, 8)];
-    for (parameters, (rounds, rotation)) in SHAPES.map(parameters).into_iter().zip(choices) {
-        let settings = Settings {
-            parameters,
-            rounds,
-            rotation,
-        };
+    let choices = [
+        (1, 2, Mixer::Plain),
+        (3, 5, Mixer::BlaMka),
+        (12, 1, Mixer::Plain),
+        (2, 11, Mixer::BlaMka),
+        (1, 8, Mixer::Plain),
+    ];
+    for (parameters, (rho, omega, mixer)) in SHAPES.map(parameters).into_iter().zip(choices) {
         let inputs = Inputs {
             password: b"password",
             salt: b"saltsalt",
             t: parameters.time as u64,
             r: parameters.rows as u64,
             c: parameters.columns as u64,
-            settings: lyra2_reference::Settings {
-                rho: rounds as u64,
-                omega: rotation as u64,
-            },
+            settings: Settings { rho, omega, mixer },
         };
+        let settings = settings(&inputs);
         let mut matrix = parameters.matrix().expect("a few megabytes");
         let mut record = parameters.record().expect("a few megabytes");
         let (mut due, mut end, mut visits) = ([0; 32], matrix.to_vec(), record.to_vec());

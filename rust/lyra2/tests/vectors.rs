@@ -3,7 +3,10 @@
 //! The runs of the second program's package look at the lent buffers too, so a refusal that changed one, or a
 //! word written past the used ones, fails here as a wrong answer does.
 
-use lyra2::{Lengths, Parameters, Settings};
+mod common;
+
+use common::{settings, size};
+use lyra2::{Lengths, Parameters};
 use lyra2_reference::vectors::{read, run, Case, Coverage, Question, Subject};
 use lyra2_reference::{Checked, Counts, Inputs, LineParts, LineValues, Recorded, Refusal};
 
@@ -12,22 +15,6 @@ const FILE: &str = concat!(env!("CARGO_MANIFEST_DIR"), "/../../vectors/lyra2.txt
 const MANY_WORDS: u64 = 1 << 24;
 
 struct Safe;
-
-fn size(number: u64) -> usize {
-    usize::try_from(number).expect("the library is built for numbers of 64 bits")
-}
-
-fn settings(inputs: &Inputs) -> Settings {
-    Settings {
-        parameters: Parameters {
-            time: size(inputs.t),
-            rows: size(inputs.r),
-            columns: size(inputs.c),
-        },
-        rounds: size(inputs.settings.rho),
-        rotation: size(inputs.settings.omega),
-    }
-}
 
 fn refusal(refusal: lyra2::Refusal) -> Refusal {
     Refusal::from_number(refusal.number().into()).expect("both packages have the same numbers")

@@ -1,6 +1,7 @@
 //! A second reader and writer of end-state files, made from docs/END-STATES.md.
 
 use lyra2_reference::vectors::checksum;
+use lyra2_reference::Mixer;
 
 /// The parts of an end-state file.
 #[derive(Clone, Debug, PartialEq, Eq)]
@@ -82,6 +83,14 @@ impl EndState {
         ];
         let words = parts.concat().into_iter().flat_map(u64::to_le_bytes);
         summed(b"LYRA2END".iter().copied().chain(words).collect())
+    }
+}
+
+/// The number of a mixer.
+pub fn mixer_number(mixer: Mixer) -> u64 {
+    match mixer {
+        Mixer::Plain => 0,
+        Mixer::BlaMka => 1,
     }
 }
 
