@@ -2,7 +2,7 @@
 
 use lyra2::Mixer;
 
-/// All of them.
+/// Both of them.
 pub const ALL: [Mixer; 2] = [Mixer::Plain, Mixer::BlaMka];
 
 /// The name of a mixer.
@@ -19,4 +19,14 @@ pub const fn number(mixer: Mixer) -> u64 {
         Mixer::Plain => 0,
         Mixer::BlaMka => 1,
     }
+}
+
+/// The mixer that has this name.
+pub fn named(text: &str) -> Option<Mixer> {
+    ALL.into_iter().find(|&mixer| name(mixer) == text)
+}
+
+/// The mixer that has this number.
+pub fn numbered(wanted: u64) -> Option<Mixer> {
+    ALL.into_iter().find(|&mixer| number(mixer) == wanted)
 }

@@ -182,11 +182,7 @@ impl PasswordOption {
 /// A mixer by its name.
 fn mixers() -> impl TypedValueParser<Value = Mixer> {
     let names = PossibleValuesParser::new(mixer::ALL.map(mixer::name));
-    names.map(|name| {
-        let mut all = mixer::ALL.into_iter();
-        all.find(|&mixer| mixer::name(mixer) == name)
-            .expect("clap takes these names alone")
-    })
+    names.map(|name| mixer::named(&name).expect("clap takes these names alone"))
 }
 
 /// A number in decimal digits, and nothing beside them. Its limits are the library's to check.

@@ -9,12 +9,14 @@ mod common;
 use common::line::{encode, Line};
 use common::terminal::Terminal;
 use common::{command, hex, words, TemporaryFile};
-use lyra2_reference::{derive_recorded, Inputs, Settings};
+use lyra2_reference::vectors::write::mixer_name;
+use lyra2_reference::{derive_recorded, Inputs, Mixer, Settings};
 use std::fs::File;
 use std::io::{PipeReader, PipeWriter, Read, Seek, SeekFrom, Write};
 use std::process::{Command, Stdio};
 use std::time::{Duration, Instant};
 
+const MIXERS: [Mixer; 2] = [Mixer::Plain, Mixer::BlaMka];
 const PASSWORD: &[u8] = b"a password to search for";
 /// Words of the matrix and of the record with T = 1, R = 16 and C = 4.
 const MATRIX_WORDS: usize = 12 * 16 * 4;
@@ -56,14 +58,17 @@ struct Due {
 }
 
 impl Due {
-    fn new() -> Due {
+    fn with(mixer: Mixer) -> Due {
         let inputs = Inputs {
             password: PASSWORD,
             salt: b"saltsalt",
             t: 1,
             r: 16,
             c: 4,
-            settings: Settings::USUAL,
+            settings: Settings {
+                mixer,
+                ..Settings::USUAL
+            },
         };
         let (mut key, mut matrix) = ([0; 64], [0; MATRIX_WORDS]);
         let recorded = derive_recorded(&inputs, &mut key, &mut matrix, &mut [0; RECORD_WORDS]);
@@ -92,6 +97,10 @@ fn line(command: &str, options: &str) -> String {
 
 /// Runs a command into a full pipe and returns what is left in its memory when it prints this text.
 fn left_by(line: &str, input: &[u8], text: &str) -> Vec<&'static str> {
+    left_by_mixer(Mixer::Plain, line, input, text)
+}
+
+fn left_by_mixer(mixer: Mixer, line: &str, input: &[u8], text: &str) -> Vec<&'static str> {
     let (reader, writer) = full_pipe();
     let mut program = command();
     program
@@ -102,7 +111,7 @@ fn left_by(line: &str, input: &[u8], text: &str) -> Vec<&'static str> {
     let mut pipe = child.stdin.take().expect("a pipe");
     pipe.write_all(input).expect("the program reads");
     drop(pipe);
-    let left = traces_left(child.id(), text);
+    let left = traces_left(child.id(), &Due::with(mixer), text);
     child.kill().expect("a process of ours");
     child.wait().expect("the program ends");
     drop(reader);
@@ -117,8 +126,8 @@ fn waits_to_print(process: u32) -> bool {
 
 /// The names of the traces that stay in the memory of a process that waits to print and holds this text. A form of the
 /// key that is in the text stays, of course.
-fn traces_left(process: u32, text: &str) -> Vec<&'static str> {
-    let Due { key, state, matrix } = Due::new();
+fn traces_left(process: u32, due: &Due, text: &str) -> Vec<&'static str> {
+    let Due { key, state, matrix } = due;
     let (digits, letters) = (hex(&key[..30]), encode(&key[..30]));
     // The library holds what it works on in words, so a part of the password or the key is searched for.
     let mut traces = vec![
@@ -150,21 +159,24 @@ fn traces_left(process: u32, text: &str) -> Vec<&'static str> {
 
 const NOTHING: [&str; 0] = [];
 
-fn key_text() -> String {
-    hex(&Due::new().key)
+fn key_text(mixer: Mixer) -> String {
+    hex(&Due::with(mixer).key)
 }
 
 #[test]
 fn of_a_password_from_standard_input_nothing_is_left() {
-    let line = line("derive", "");
-    assert_eq!(left_by(&line, PASSWORD, &key_text()), NOTHING);
+    for mixer in MIXERS {
+        let line = line("derive", &format!("--mixer {}", mixer_name(mixer)));
+        let left = left_by_mixer(mixer, &line, PASSWORD, &key_text(mixer));
+        assert_eq!(left, NOTHING, "{mixer:?}");
+    }
 }
 
 #[test]
 fn of_a_password_from_a_file_nothing_is_left() {
     let file = TemporaryFile::holding(PASSWORD);
     let line = line("derive", &format!("--password-file {}", file.name()));
-    assert_eq!(left_by(&line, b"", &key_text()), NOTHING);
+    assert_eq!(left_by(&line, b"", &key_text(Mixer::Plain)), NOTHING);
 }
 
 /// The limits of a process that started without one on core dumps.
@@ -202,11 +214,14 @@ fn no_core_dump_is_written() {
 /// A trial keeps state and matrix, until they are in its file.
 #[test]
 fn of_a_trial_nothing_is_left() {
-    let file = TemporaryFile::new();
-    let line = line("trial", &format!("--output {}", file.name()));
     let bytes = 8 * (12 + 16 + MATRIX_WORDS + RECORD_WORDS + 1);
     let text = format!("{bytes} bytes, checksum ");
-    assert_eq!(left_by(&line, PASSWORD, &text), NOTHING);
+    for mixer in MIXERS {
+        let (file, name) = (TemporaryFile::new(), mixer_name(mixer));
+        let options = format!("--mixer {name} --output {}", file.name());
+        let left = left_by_mixer(mixer, &line("trial", &options), PASSWORD, &text);
+        assert_eq!(left, NOTHING, "{mixer:?}");
+    }
 }
 
 /// The line that is made of the password.
@@ -247,6 +262,7 @@ fn of_a_typed_password_nothing_is_left() {
     let (_, number) = shown.split_once('<').expect("a number");
     let (number, _) = number.split_once('>').expect("a number");
     let process = number.parse().expect("a number");
-    assert_eq!(traces_left(process, &key_text()), NOTHING);
+    let (due, text) = (Due::with(Mixer::Plain), key_text(Mixer::Plain));
+    assert_eq!(traces_left(process, &due, &text), NOTHING);
     drop((terminal, reader));
 }

@@ -170,13 +170,9 @@ fn within(name: &str, number: u64, limits: RangeInclusive<usize>) -> Result<usiz
 }
 
 fn mixer_of(number: u64) -> Result<Mixer, String> {
-    let mut all = mixer::ALL.into_iter();
-    all.find(|&mixer| mixer::number(mixer) == number)
-        .ok_or_else(|| {
-            let due = mixer::ALL.map(|it| format!("{} for {}", mixer::number(it), mixer::name(it)));
-            format!(
-                "the mixer is {number} in its header; {} is due",
-                due.join(" or ")
-            )
-        })
+    mixer::numbered(number).ok_or_else(|| {
+        let due = mixer::ALL.map(|it| format!("{} for {}", mixer::number(it), mixer::name(it)));
+        let due = due.join(" or ");
+        format!("the mixer is {number} in its header; {due} is due")
+    })
 }
