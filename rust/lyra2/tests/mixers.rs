@@ -87,7 +87,7 @@ fn operations_agree(inputs: &Inputs, key_length: usize) -> Counts {
         checked.same
     };
     assert!(checked(settings), "{settings:?}");
-    // A key of one byte is the same for a few inputs.
+    // Keys of one byte can be the same by chance.
     if key_length > 1 {
         let mixer = match settings.mixer {
             Mixer::Plain => Mixer::BlaMka,
