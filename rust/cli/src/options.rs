@@ -51,6 +51,13 @@ pub struct RoundsOption {
 }
 
 #[derive(Args)]
+pub struct MixerOption {
+    /// The mixer, plain or blamka, which multiplies and takes longer
+    #[arg(long, value_name = "MIXER", value_parser = mixers(), hide_possible_values = true, default_value = mixer::name(USUAL_MIXER))]
+    pub mixer: Mixer,
+}
+
+#[derive(Args)]
 pub struct SettingsOptions {
     #[command(flatten)]
     costs: CostOptions,
@@ -59,9 +66,8 @@ pub struct SettingsOptions {
     /// The rotation in words, omega, 1 to 11
     #[arg(long, value_name = "N", value_parser = decimal, allow_negative_numbers = true, default_value_t = USUAL_ROTATION)]
     rotation: usize,
-    /// The mixer, plain or blamka, which multiplies and takes longer
-    #[arg(long, value_name = "MIXER", value_parser = mixers(), hide_possible_values = true, default_value = mixer::name(USUAL_MIXER))]
-    mixer: Mixer,
+    #[command(flatten)]
+    mixer: MixerOption,
 }
 
 impl SettingsOptions {
@@ -70,7 +76,7 @@ impl SettingsOptions {
             parameters: self.costs.parameters(),
             rounds: self.rounds.rounds,
             rotation: self.rotation,
-            mixer: self.mixer,
+            mixer: self.mixer.mixer,
         }
     }
 }

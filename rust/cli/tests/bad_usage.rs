@@ -94,7 +94,7 @@ fn options() {
         &format!("{DERIVE} --mixer plain --mixer plain"),
         "lyra2 derive: --mixer is given twice",
     );
-    // A line goes with the usual choice, and rotation and mixer change no count.
+    // A line goes with the usual choice, and no rotation changes a cost.
     for (line, option) in [
         (LINE, "--rounds"),
         (LINE, "--rotation"),
@@ -103,7 +103,6 @@ fn options() {
         ("login --line-file x", "--rotation"),
         ("login --line-file x", "--mixer"),
         (COST, "--rotation"),
-        (COST, "--mixer"),
     ] {
         let found = lyra2(&words(&format!("{line} {option} 2")), b"pass").failure();
         let due = format!("lyra2 {}: unknown option {option:?}", words(line)[0]);
@@ -255,7 +254,8 @@ fn numbers() {
 fn mixers() {
     let trial = DERIVE.replace("derive", "trial") + " --output x";
     let check = format!("{CHECK} --key 00");
-    for line in [DERIVE, &check, &trial] {
+    let cost = format!("{COST} --password-length 1");
+    for line in [DERIVE, &check, &trial, &cost] {
         let name = words(line)[0];
         for text in [
             "BlaMka",

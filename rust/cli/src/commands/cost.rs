@@ -1,7 +1,7 @@
 //! `lyra2 cost`: what a derivation spends, and about how long it takes.
 
 use crate::failure::Failure;
-use crate::options::{decimal, CostOptions, KeyLengthOption, RoundsOption};
+use crate::options::{decimal, CostOptions, KeyLengthOption, MixerOption, RoundsOption};
 use crate::outcome::Outcome;
 use crate::{estimate, help};
 use clap::Args;
@@ -11,12 +11,11 @@ use lyra2::{Lengths, Settings};
 #[derive(Args)]
 #[command(after_help = help::paragraphs(&[
     "The full calls, the reduced calls and the rounds of a derivation with these numbers are printed, the bytes of the \
-     matrix and of the visit record, and the expected seconds. No password is asked for, and neither rotation nor \
-     mixer, which change no count.",
-    "The seconds are an estimate: a derivation with the same rounds of a reduced call and the plain mixer over a matrix of \
+     matrix and of the visit record, and the expected seconds. No password is asked for, and no rotation, which changes \
+     none of them. The mixer changes the seconds alone.",
+    "The seconds are an estimate: a derivation with the same rounds of a reduced call and the same mixer over a matrix of \
      at most 6 MiB is timed three times on the spot, and its median is scaled by the number of reduced calls. Setting \
-     memory aside comes on top, and a matrix beyond the processor's caches, a busy machine or the mixer blamka takes \
-     longer.",
+     memory aside comes on top, and a matrix beyond the processor's caches or a busy machine takes longer.",
     help::STATUS,
 ]))]
 pub struct Cost {
@@ -24,6 +23,8 @@ pub struct Cost {
     costs: CostOptions,
     #[command(flatten)]
     rounds: RoundsOption,
+    #[command(flatten)]
+    mixer: MixerOption,
     #[command(flatten)]
     key: KeyLengthOption,
     /// Bytes of the password, 0 to 1024
@@ -47,6 +48,7 @@ impl Cost {
         let bytes = |words: Option<usize>| 8 * words.map_or(0, |words| words as u64);
         let settings = Settings {
             rounds,
+            mixer: self.mixer.mixer,
             ..parameters.into()
         };
         let seconds = estimate::seconds(settings, counts)?;
