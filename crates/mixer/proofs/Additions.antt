@@ -1,5 +1,5 @@
 -- BlaMka's addition is undone by its inverse, and so is that of every mixer. Assumes nothing.
-use mathlib.Core.Path.{_≡_, refl, sym, ap, _∙_, subst}
+use mathlib.Core.Path.{_≡_, refl, sym, ap, _∙_}
 use Prim.Native.Nat.{ℕ, _+_, _-_, _*_, _/_, _%_, _^_, _≤_, _<_}
 use native.Mathlib.Nat.{div-add-mod, add-mul-mod-self-left, mul-mod-right, mul-le-mul, mod-lt, mod-mod, mod-add-mod, add-mod-mod}
 use native.Mathlib.Omega.{arith}

@@ -1,9 +1,9 @@
 -- Loops over the table of quads. Assumes nothing.
-use mathlib.Core.Path.{_≡_, refl, sym, ap, ap₂, _∙_, subst}
+use mathlib.Core.Path.{_≡_, sym, ap, ap₂, _∙_}
 use Prim.Native.Nat.{ℕ, zero, suc, _+_, _-_, _≤_, _<_}
 use native.Mathlib.Omega.{arith}
 use mathlib.Core.List.{List}
-use lib.ListN.{length, getD, take, drop}
+use lib.ListN.{getD, take, drop}
 use Rattle.mixer.specs.declared.Words.{Words}
 use Rattle.mixer.specs.G.{G}
 use Rattle.profile.specs.declared.Quad.{Quad}

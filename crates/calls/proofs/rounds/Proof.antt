@@ -16,4 +16,6 @@ rounds-spec =
     (λ c.
     let a = c .before .before .before .before .args in
     c .plain-rounds .ensures ∙ ap (λ (x : Mixer). rounds (sumOf x) (a .n) (now (a .s))) (sym (c .before .before .enum-told .given .1)))
-    (λ c. c .round-by-round .ensures))
+    (λ c.
+    let a = c .before .before .before .before .args in
+    c .blamka-rounds .ensures ∙ ap (λ (x : Mixer). rounds (sumOf x) (a .n) (now (a .s))) (sym (c .before .before .enum-told2 .given .1))))

@@ -1,9 +1,9 @@
 -- `blamka_mixed` meets its contract: the round, half by half. Assumes nothing.
-use mathlib.Core.Path.{_≡_, ap, _∙_}
+use mathlib.Core.Path.{ap, _∙_}
 use Prim.Native.Nat.{ℕ, _-_, _≤_}
 use native.Mathlib.Omega.{arith}
 use mathlib.Core.List.{List}
-use lib.ListN.{length, take, drop}
+use lib.ListN.{take, drop}
 use Rattle.mixer.specs.declared.Words.{Words}
 use Rattle.mixer.specs.Mixers.{blamkaSum}
 use Rattle.mixer.specs.G.{halfG}
