@@ -1,16 +1,21 @@
-//! Compiles c/lyra2.c twice, for every x86-64 processor and for those with AVX2, and notes the compilers.
+//! Compiles c/lyra2.c for every x86-64 processor and for those with AVX2, with each mixer, and notes the compilers.
 
 use std::path::{Path, PathBuf};
 use std::process::Command;
 
-/// The name of an object file and the options that make it.
-const OBJECTS: [(&str, &[&str]); 2] = [("sse2.o", &[]), ("avx2.o", &["-mavx2"])];
+/// The name of an object file and of the function in it, and the options that make it.
+const OBJECTS: [(&str, &[&str]); 4] = [
+    ("bench_derive_sse2", &["-DBLAMKA=0"]),
+    ("bench_derive_sse2_blamka", &["-DBLAMKA=1"]),
+    ("bench_derive_avx2", &["-DBLAMKA=0", "-mavx2"]),
+    ("bench_derive_avx2_blamka", &["-DBLAMKA=1", "-mavx2"]),
+];
 
 fn main() {
     println!("cargo:rerun-if-changed=build.rs");
     println!("cargo:rerun-if-changed=c");
     let folder = PathBuf::from(variable("OUT_DIR"));
-    let objects = OBJECTS.map(|(name, options)| compile(&folder.join(name), options));
+    let objects = OBJECTS.map(|(name, options)| compile(&folder, name, options));
     let archive = folder.join("libbench_c.a");
     // An archive of an earlier build could still hold other objects.
     let _ = std::fs::remove_file(&archive);
@@ -22,12 +27,15 @@ fn main() {
     println!("cargo:rustc-env=C_COMPILER={}", first_line("cc"));
 }
 
-fn compile(object: &Path, options: &[&str]) -> PathBuf {
+fn compile(folder: &Path, name: &str, options: &[&str]) -> PathBuf {
+    let object = folder.join(name).with_extension("o");
     let common = ["-O3", "-std=c11", "-Wall", "-Wextra", "-fPIC", "-c"];
     let mut cc = Command::new("cc");
-    cc.args(common).args(options).arg("c/lyra2.c").arg("-o");
-    run(cc.arg(object));
-    object.to_path_buf()
+    cc.args(common)
+        .args(options)
+        .arg(format!("-DDERIVE={name}"));
+    run(cc.arg("c/lyra2.c").arg("-o").arg(&object));
+    object
 }
 
 /// Runs a command, or ends the build with a line that says what is missing or failed.

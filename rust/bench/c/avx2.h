@@ -49,17 +49,24 @@ static inline Vector turn16(Vector x)
 
 static inline Vector turn63(Vector x) { return _mm256_or_si256(_mm256_srli_epi64(x, 63), _mm256_add_epi64(x, x)); }
 
+/* G's addition. BlaMka adds twice the product of the low halves besides. */
+static inline Vector mixing_sum(Vector x, Vector y)
+{
+    Vector product = _mm256_mul_epu32(x, y);
+    return BLAMKA ? add(add(x, y), add(product, product)) : add(x, y);
+}
+
 /* G on the four columns of the state as a square of four by four. */
 static inline void g(Vector *s)
 {
     Vector a = s[0], b = s[1], c = s[2], d = s[3];
-    a = add(a, b);
+    a = mixing_sum(a, b);
     d = turn32(exclusive_or(d, a));
-    c = add(c, d);
+    c = mixing_sum(c, d);
     b = turn24(exclusive_or(b, c));
-    a = add(a, b);
+    a = mixing_sum(a, b);
     d = turn16(exclusive_or(d, a));
-    c = add(c, d);
+    c = mixing_sum(c, d);
     b = turn63(exclusive_or(b, c));
     s[0] = a, s[1] = b, s[2] = c, s[3] = d;
 }

@@ -1,7 +1,8 @@
 /*
- * The plain derivation in C with intrinsics, to set the proved one beside, with the usual settings: a reduced call has one
- * round and the rotation goes by two words. It is compiled once for each set of instructions: sse2.h or avx2.h has the
- * registers and the round, and everything else stands here once.
+ * The plain derivation in C with intrinsics, to set the proved one beside, with the usual rounds and rotation: a reduced
+ * call has one round and the rotation goes by two words. It is compiled once for each set of instructions and each mixer:
+ * sse2.h or avx2.h has the registers and the round, and everything else stands here once. The compiler's options define
+ * BLAMKA, which is 1 for that mixer and 0 for the plain one, and DERIVE, the name of the function.
  *
  * The caller answers for what the checks would refuse, and lends a matrix of 12 * R * C words, which end as zeros; the
  * proved derivation pays for that too.
@@ -12,10 +13,8 @@
 
 #ifdef __AVX2__
 #include "avx2.h"
-#define DERIVE bench_derive_avx2
 #else
 #include "sse2.h"
-#define DERIVE bench_derive_sse2
 #endif
 
 enum { STATE_WORDS = 16, BLOCK_BYTES = 64, CELL_WORDS = 12, CELL_BYTES = 96, FULL_ROUNDS = 12 };

@@ -40,18 +40,25 @@ static inline Vector across(Vector x, Vector y)
     return _mm_castpd_si128(_mm_shuffle_pd(_mm_castsi128_pd(x), _mm_castsi128_pd(y), 1));
 }
 
+/* G's addition. BlaMka adds twice the product of the low halves besides. */
+static inline Vector mixing_sum(Vector x, Vector y)
+{
+    Vector product = _mm_mul_epu32(x, y);
+    return BLAMKA ? add(add(x, y), add(product, product)) : add(x, y);
+}
+
 /* G on the four columns of the state as a square of four by four, half of them in each register of a row. */
 static inline void g(Vector *s)
 {
     for (int i = 0; i < 2; i++) {
         Vector a = s[i], b = s[2 + i], c = s[4 + i], d = s[6 + i];
-        a = add(a, b);
+        a = mixing_sum(a, b);
         d = turn32(exclusive_or(d, a));
-        c = add(c, d);
+        c = mixing_sum(c, d);
         b = turn24(exclusive_or(b, c));
-        a = add(a, b);
+        a = mixing_sum(a, b);
         d = turn16(exclusive_or(d, a));
-        c = add(c, d);
+        c = mixing_sum(c, d);
         b = turn63(exclusive_or(b, c));
         s[i] = a, s[2 + i] = b, s[4 + i] = c, s[6 + i] = d;
     }

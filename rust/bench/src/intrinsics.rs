@@ -1,7 +1,7 @@
-//! The plain derivation in C with intrinsics, of c/lyra2.c. It has the usual rounds and rotation alone.
+//! The plain derivation in C with intrinsics, of c/lyra2.c, with either mixer. It has the usual rounds and rotation alone.
 
 use lyra2_reference::refusal::check_matrix;
-use lyra2_reference::{Inputs, Settings};
+use lyra2_reference::{Inputs, Mixer, Settings};
 
 /// Derivation of c/lyra2.c: what is asked, and the lent buffers.
 #[repr(C)]
@@ -18,20 +18,38 @@ struct Derivation {
     matrix: *mut u64,
 }
 
+type Foreign = unsafe extern "C" fn(*const Derivation);
+
 extern "C" {
     fn bench_derive_sse2(asked: *const Derivation);
+    fn bench_derive_sse2_blamka(asked: *const Derivation);
     fn bench_derive_avx2(asked: *const Derivation);
+    fn bench_derive_avx2_blamka(asked: *const Derivation);
 }
 
-/// The derivation with SSE2, for inputs and buffers that no check refuses, with the usual settings.
+/// The derivation with SSE2, for inputs and buffers that no check refuses, with the usual rounds and rotation.
 pub fn derive_sse2(inputs: &Inputs, key: &mut [u8], matrix: &mut [u64]) {
-    derive(bench_derive_sse2, inputs, key, matrix);
+    let foreign: Foreign = match inputs.settings.mixer {
+        Mixer::Plain => bench_derive_sse2,
+        Mixer::BlaMka => bench_derive_sse2_blamka,
+    };
+    derive(foreign, inputs, key, matrix);
 }
 
-/// The derivation with AVX2, for inputs and buffers that no check refuses, with the usual settings.
+/// The derivation with AVX2, for inputs and buffers that no check refuses, with the usual rounds and rotation.
 pub fn derive_avx2(inputs: &Inputs, key: &mut [u8], matrix: &mut [u64]) {
     assert!(has_avx2(), "this processor has no AVX2");
-    derive(bench_derive_avx2, inputs, key, matrix);
+    let foreign: Foreign = match inputs.settings.mixer {
+        Mixer::Plain => bench_derive_avx2,
+        Mixer::BlaMka => bench_derive_avx2_blamka,
+    };
+    derive(foreign, inputs, key, matrix);
+}
+
+/// Whether the C programs have these settings.
+pub fn have(settings: Settings) -> bool {
+    let Settings { rho, omega, .. } = Settings::USUAL;
+    (settings.rho, settings.omega) == (rho, omega)
 }
 
 /// Whether the processor has AVX2.
@@ -39,14 +57,12 @@ pub fn has_avx2() -> bool {
     std::arch::is_x86_feature_detected!("avx2")
 }
 
-fn derive(
-    foreign: unsafe extern "C" fn(*const Derivation),
-    inputs: &Inputs,
-    key: &mut [u8],
-    matrix: &mut [u64],
-) {
-    let usual = inputs.settings == Settings::USUAL;
-    assert!(usual, "the C programs have the usual settings alone");
+fn derive(foreign: Foreign, inputs: &Inputs, key: &mut [u8], matrix: &mut [u64]) {
+    let usual = have(inputs.settings);
+    assert!(
+        usual,
+        "the C programs have the usual rounds and rotation alone"
+    );
     check_matrix(&inputs.parameters(key.len()), inputs.settings, matrix).expect("no check refuses");
     let asked = Derivation {
         key: key.as_mut_ptr(),

@@ -9,7 +9,7 @@
 //! | `programs` | everything that is measured, in one form |
 //! | `measure` | the turns in which the programs run, and their times |
 //! | `table`, `machine` | the tables of docs/PERFORMANCE.md and the machine they hold for |
-//! | `settings` | other rounds and rotations than the usual ones |
+//! | `settings` | other settings than the usual ones |
 //! | `pages`, `fresh` | large pages beside ordinary ones, and a Vec of pages that were never touched |
 //! | `sizes`, `plot` | time against memory, and the picture of it |
 

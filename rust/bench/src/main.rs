@@ -5,16 +5,21 @@
 use bench::lent::Lent;
 use bench::{machine, pages, plot, programs, settings, sizes, table};
 use lyra2_reference::refusal::check_parameters;
+use lyra2_reference::Settings;
 use std::process::ExitCode;
 
 const USAGE: &str = "\
 usage: bench [table] [--quick]         the tables, in Markdown
        bench table R C .. [--quick]    the same for these numbers of rows and columns
        bench pages [--quick]           large pages beside ordinary ones, in Markdown
-       bench settings [--quick]        other rounds and rotations than the usual ones, in Markdown
+       bench blamka [R C ..] [--quick] the tables with the multiplying mixer
+       bench settings [--quick]        other settings than the usual ones, in Markdown
        bench plot FILE [--quick]       time against memory, as an SVG picture
-       bench once PROGRAM R C          one derivation, for a tool that counts instructions
+       bench once PROGRAM R C [blamka] one derivation, for a tool that counts instructions
 --quick makes one pass over the measurements instead of four.";
+
+/// The usual rounds and rotation with the multiplying mixer.
+const BLAMKA: Settings = settings::multiplying(Settings::USUAL);
 
 fn main() -> ExitCode {
     let mut words: Vec<String> = std::env::args().skip(1).collect();
@@ -22,12 +27,14 @@ fn main() -> ExitCode {
     words.retain(|word| word != "--quick");
     let words: Vec<&str> = words.iter().map(String::as_str).collect();
     let done = match words[..] {
-        [] | ["table"] => print_tables(&table::SHAPES, quick),
-        ["table", ref numbers @ ..] => shapes(numbers).and_then(|s| print_tables(&s, quick)),
+        [] => print_tables(Settings::USUAL, &[], quick),
+        ["table", ref numbers @ ..] => print_tables(Settings::USUAL, numbers, quick),
+        ["blamka", ref numbers @ ..] => print_tables(BLAMKA, numbers, quick),
         ["pages"] => print_pages(quick),
         ["settings"] => print_settings(quick),
         ["plot", file] => draw(file, quick),
-        ["once", program, r, c] => once(program, r, c),
+        ["once", program, r, c] => once(program, r, c, Settings::USUAL),
+        ["once", program, r, c, "blamka"] => once(program, r, c, BLAMKA),
         _ => Err(USAGE.to_string()),
     };
     match done {
@@ -39,8 +46,11 @@ fn main() -> ExitCode {
     }
 }
 
-/// Pairs of R and C that no check refuses.
+/// Pairs of R and C that no check refuses; those of the page where none are given.
 fn shapes(numbers: &[&str]) -> Result<Vec<(u64, u64)>, String> {
+    if numbers.is_empty() {
+        return Ok(table::SHAPES.to_vec());
+    }
     let mut shapes = Vec::new();
     for pair in numbers.chunks(2) {
         let [r, c] = pair else {
@@ -59,10 +69,11 @@ fn shape(r: &str, c: &str) -> Result<(u64, u64), String> {
     Ok((r, c))
 }
 
-fn print_tables(shapes: &[(u64, u64)], quick: bool) -> Result<(), String> {
+fn print_tables(settings: Settings, numbers: &[&str], quick: bool) -> Result<(), String> {
+    let shapes = shapes(numbers)?;
     let (programs, missing) = programs::all();
     println!("{}", machine::description());
-    table::print(&programs, shapes, quick);
+    table::print(&programs, settings, &shapes, quick);
     for line in missing {
         println!("\n{line}");
     }
@@ -95,13 +106,12 @@ fn draw(file: &str, quick: bool) -> Result<(), String> {
     Ok(())
 }
 
-fn once(name: &str, r: &str, c: &str) -> Result<(), String> {
+fn once(name: &str, r: &str, c: &str, settings: Settings) -> Result<(), String> {
     let (programs, _) = programs::all();
     let named = programs.iter().find(|program| program.name == name);
     let names: Vec<_> = programs.iter().map(|program| program.name).collect();
     let program = named.ok_or(format!("the programs are: {}", names.join("; ")))?;
-    let (r, c) = shape(r, c)?;
-    let inputs = table::inputs(r, c);
+    let inputs = table::inputs_with(settings, shape(r, c)?);
     (program.derive)(&inputs, &mut Lent::new(&inputs));
     Ok(())
 }

@@ -3,10 +3,11 @@
 //! State and matrix are shared words (`Cell`), since two rows of a visit may be one. It is also faster: a compiler
 //! that knows state and matrix to be apart sums in vector registers and then has to take the sums to pieces for the
 //! round. The output is copied before it is written, so that the XORs into the matrix are done in vector registers.
-//! The rotation is a constant of the walk, of which there is one for each, and so is whether a reduced call has one round.
+//! The rotation is a constant of the walk, of which there is one for each, and so are the mixer and whether a reduced call
+//! has one round.
 
 use lyra2_reference::sponge::{State, BLOCK_WORDS, CELL_WORDS, FULL_ROUNDS, STARTING_WORDS};
-use lyra2_reference::Inputs;
+use lyra2_reference::{Inputs, Mixer};
 use std::cell::Cell as Word;
 
 /// The state as shared words.
@@ -35,13 +36,20 @@ pub fn derive(inputs: &Inputs, key: &mut [u8], matrix: &mut [u64]) {
 }
 
 fn derive_rotating<const OMEGA: usize>(inputs: &Inputs, key: &mut [u8], matrix: &mut [u64]) {
-    match inputs.settings.rho {
-        1 => run::<OMEGA>(inputs, key, matrix, round),
-        rho => run::<OMEGA>(inputs, key, matrix, |s| rounds(s, rho)),
+    match inputs.settings.mixer {
+        Mixer::Plain => derive_mixing::<OMEGA, Plain>(inputs, key, matrix),
+        Mixer::BlaMka => derive_mixing::<OMEGA, BlaMka>(inputs, key, matrix),
     }
 }
 
-fn run<const OMEGA: usize>(
+fn derive_mixing<const OMEGA: usize, M: Mix>(inputs: &Inputs, key: &mut [u8], matrix: &mut [u64]) {
+    match inputs.settings.rho {
+        1 => run::<OMEGA, M>(inputs, key, matrix, M::round),
+        rho => run::<OMEGA, M>(inputs, key, matrix, |s| M::rounds(s, rho)),
+    }
+}
+
+fn run<const OMEGA: usize, M: Mix>(
     inputs: &Inputs,
     key: &mut [u8],
     matrix: &mut [u64],
@@ -50,7 +58,7 @@ fn run<const OMEGA: usize>(
     let mut start = [0; 16];
     start[8..].copy_from_slice(&STARTING_WORDS);
     let s = &start.map(Word::new);
-    absorb_input(s, inputs, key.len());
+    absorb_input::<M>(s, inputs, key.len());
     let (rows, columns) = (inputs.r as usize, inputs.c as usize);
     let words = Word::from_mut(matrix).as_slice_of_cells();
     let cells = &words.as_chunks().0[..rows * columns];
@@ -60,9 +68,38 @@ fn run<const OMEGA: usize>(
         visit::<OMEGA>(s, cells, columns, picked, last, reduced_call);
         last = picked;
     }
-    absorb(s, cells[last[0] * columns].iter().map(Word::get));
-    squeeze(s, key);
+    absorb::<M>(s, cells[last[0] * columns].iter().map(Word::get));
+    squeeze::<M>(s, key);
     matrix[..CELL_WORDS * rows * columns].fill(0);
+}
+
+/// The rounds of a mixer.
+trait Mix {
+    fn round(shared: &Shared);
+    fn rounds(shared: &Shared, count: u64);
+}
+
+/// The mixer whose additions are plain ones.
+struct Plain;
+
+impl Mix for Plain {
+    /// Not inlined, so that the round has all registers to itself.
+    #[inline(never)]
+    fn round(shared: &Shared) {
+        let mut s = shared.each_ref().map(Word::get);
+        mix(&mut s);
+        put(shared, s);
+    }
+
+    /// Several rounds, between which the state is not put back.
+    #[inline(never)]
+    fn rounds(shared: &Shared, count: u64) {
+        let mut s = shared.each_ref().map(Word::get);
+        for _ in 0..count {
+            mix(&mut s);
+        }
+        put(shared, s);
+    }
 }
 
 #[inline(always)]
@@ -89,26 +126,62 @@ fn mix(s: &mut State) {
     g(s, 3, 4, 9, 14);
 }
 
-/// Not inlined, so that the round has all registers to itself.
-#[inline(never)]
-fn round(shared: &Shared) {
-    let mut s = shared.each_ref().map(Word::get);
-    mix(&mut s);
-    put(shared, s);
-}
+/// The multiplying mixer. A product is waited for, and so the four quads are mixed side by side, step by step: half of G
+/// by half of G takes 4 % longer, and quad after quad 7 %.
+struct BlaMka;
 
-/// Several rounds, between which the state is not put back.
-#[inline(never)]
-fn rounds(shared: &Shared, count: u64) {
-    let mut s = shared.each_ref().map(Word::get);
-    for _ in 0..count {
-        mix(&mut s);
+impl Mix for BlaMka {
+    /// Not inlined, as with the plain mixer.
+    #[inline(never)]
+    fn round(shared: &Shared) {
+        let mut s = shared.each_ref().map(Word::get);
+        side_by_side(&mut s, COLUMNS);
+        side_by_side(&mut s, DIAGONALS);
+        put(shared, s);
     }
-    put(shared, s);
+
+    /// Round by round: in a loop that keeps the state, words and products do not fit into the registers, and four rounds
+    /// take 40 % longer.
+    #[inline(never)]
+    fn rounds(shared: &Shared, count: u64) {
+        for _ in 0..count {
+            Self::round(shared);
+        }
+    }
 }
 
-fn full_call(s: &Shared) {
-    rounds(s, FULL_ROUNDS);
+/// The places of a, b, c and d of four quads.
+type Quads = [[usize; 4]; 4];
+
+const COLUMNS: Quads = [[0, 1, 2, 3], [4, 5, 6, 7], [8, 9, 10, 11], [12, 13, 14, 15]];
+const DIAGONALS: Quads = [[0, 1, 2, 3], [5, 6, 7, 4], [10, 11, 8, 9], [15, 12, 13, 14]];
+
+#[inline(always)]
+fn side_by_side(s: &mut State, [a, b, c, d]: Quads) {
+    for (first, second) in [(32, 24), (16, 63)] {
+        step(s, a, b, blamka_sum);
+        step(s, d, a, |x, y| (x ^ y).rotate_right(first));
+        step(s, c, d, blamka_sum);
+        step(s, b, c, |x, y| (x ^ y).rotate_right(second));
+    }
+}
+
+/// A step of all four quads: the words at `to` become what is made of them and of those at `from`.
+#[inline(always)]
+fn step(s: &mut State, to: [usize; 4], from: [usize; 4], of: impl Fn(u64, u64) -> u64) {
+    for (i, j) in to.into_iter().zip(from) {
+        s[i] = of(s[i], s[j]);
+    }
+}
+
+#[inline(always)]
+fn blamka_sum(x: u64, y: u64) -> u64 {
+    let product = u64::from(x as u32) * u64::from(y as u32);
+    x.wrapping_add(y).wrapping_add(product << 1)
+}
+
+fn full_call<M: Mix>(s: &Shared) {
+    M::rounds(s, FULL_ROUNDS);
 }
 
 #[inline(always)]
@@ -128,14 +201,14 @@ fn output(s: &Shared) -> [u64; CELL_WORDS] {
     std::array::from_fn(|j| s[j].get())
 }
 
-fn absorb(s: &Shared, words: impl Iterator<Item = u64>) {
+fn absorb<M: Mix>(s: &Shared, words: impl Iterator<Item = u64>) {
     for (place, word) in s.iter().zip(words) {
         xor(place, word);
     }
-    full_call(s);
+    full_call::<M>(s);
 }
 
-fn absorb_input(s: &Shared, inputs: &Inputs, key_len: usize) {
+fn absorb_input<M: Mix>(s: &Shared, inputs: &Inputs, key_len: usize) {
     let lengths = [key_len, inputs.password.len(), inputs.salt.len()].map(|len| len as u64);
     let numbers = [lengths, [inputs.t, inputs.r, inputs.c]].concat();
     let mut input = [inputs.password, inputs.salt].concat();
@@ -145,7 +218,7 @@ fn absorb_input(s: &Shared, inputs: &Inputs, key_len: usize) {
     *input.last_mut().expect("the padding has a byte") |= 0x01;
     let (words, _) = input.as_chunks::<8>();
     for block in words.chunks_exact(BLOCK_WORDS) {
-        absorb(s, block.iter().map(|&word| u64::from_le_bytes(word)));
+        absorb::<M>(s, block.iter().map(|&word| u64::from_le_bytes(word)));
     }
 }
 
@@ -252,10 +325,10 @@ fn remainder(word: u64, columns: usize) -> usize {
     }
 }
 
-fn squeeze(s: &Shared, key: &mut [u8]) {
+fn squeeze<M: Mix>(s: &Shared, key: &mut [u8]) {
     for (number, piece) in key.chunks_mut(8 * CELL_WORDS).enumerate() {
         if number > 0 {
-            full_call(s);
+            full_call::<M>(s);
         }
         let bytes = s.iter().flat_map(|word| word.get().to_le_bytes());
         piece.iter_mut().zip(bytes).for_each(|(x, y)| *x = y);

@@ -2,7 +2,7 @@
 
 use crate::measure::{add_pass, measure, passes, Times};
 use crate::programs::{Program, C_SSE2, RUST_FOR_SPEED};
-use lyra2_reference::{Inputs, Settings};
+use lyra2_reference::{Inputs, Mixer, Settings};
 
 /// The R and C of the page's tables: 6 MiB twice, then 96 MiB twice.
 pub const SHAPES: [(u64, u64); 4] = [(1024, 64), (256, 256), (16_384, 64), (4096, 256)];
@@ -33,15 +33,20 @@ const HEAD: [&str; 5] = [
 /// A line of a table.
 type Line = [String; HEAD.len()];
 
-/// The inputs of every measurement, with T = 1.
+/// The inputs of a measurement with the usual settings, with T = 1.
 pub fn inputs(r: u64, c: u64) -> Inputs<'static> {
+    inputs_with(Settings::USUAL, (r, c))
+}
+
+/// The same with these settings.
+pub fn inputs_with(settings: Settings, (r, c): (u64, u64)) -> Inputs<'static> {
     Inputs {
         password: b"correct horse battery staple",
         salt: b"0123456789abcdef",
         t: 1,
         r,
         c,
-        settings: Settings::USUAL,
+        settings,
     }
 }
 
@@ -50,28 +55,41 @@ pub fn mebibytes(inputs: &Inputs) -> f64 {
     (96 * inputs.r * inputs.c) as f64 / f64::from(1 << 20)
 }
 
-/// Measures every shape and prints a table for each.
-pub fn print(programs: &[Program], shapes: &[(u64, u64)], quick: bool) {
+/// Measures every shape with these settings and prints a table for each.
+pub fn print(programs: &[Program], settings: Settings, shapes: &[(u64, u64)], quick: bool) {
     let programs: Vec<&Program> = programs.iter().collect();
     let mut times = vec![Vec::new(); shapes.len()];
     for _ in 0..passes(quick) {
-        for (&(r, c), times) in shapes.iter().zip(&mut times) {
-            add_pass(times, measure(&inputs(r, c), &programs, turns((r, c))));
+        for (&shape, times) in shapes.iter().zip(&mut times) {
+            let inputs = inputs_with(settings, shape);
+            add_pass(times, measure(&inputs, &programs, turns(shape)));
         }
     }
     println!("{FIELDS}");
-    for (&(r, c), times) in shapes.iter().zip(&times) {
-        let inputs = inputs(r, c);
+    for (&shape, times) in shapes.iter().zip(&times) {
+        let inputs = inputs_with(settings, shape);
         println!("{}", title(&inputs, &times[0]));
         print!("{}", markdown(&inputs, &programs, times));
     }
 }
 
-/// The line above a table.
+/// The line above a table; the mixer is named where it is not the usual one.
 pub fn title(inputs: &Inputs, times: &Times) -> String {
     let Inputs { t, r, c, .. } = inputs;
     let (size, turns) = (mebibytes(inputs), times.count());
-    format!("\n**{size} MiB:** T {t}, R {r}, C {c}, {turns} turns\n")
+    let mixer = match inputs.settings.mixer {
+        Mixer::Plain => String::new(),
+        other => format!(", {}", mixer_name(other)),
+    };
+    format!("\n**{size} MiB{mixer}:** T {t}, R {r}, C {c}, {turns} turns\n")
+}
+
+/// What the tables call a mixer.
+pub fn mixer_name(mixer: Mixer) -> &'static str {
+    match mixer {
+        Mixer::Plain => "plain",
+        Mixer::BlaMka => "BlaMka",
+    }
 }
 
 /// A table with a line for each program.

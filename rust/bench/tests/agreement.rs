@@ -1,20 +1,24 @@
-//! The programs that are measured derive the same key as the second program and leave in the matrix what they have to.
+//! The programs that are measured derive the same key as the second program, with either mixer, and leave in the matrix what
+//! they have to.
 
 use bench::lent::{Lent, Pages};
 use bench::measure::{measure, measure_in};
 use bench::pages::measure_once;
 use bench::programs::{self, Program};
 use bench::settings::{self, SETTINGS};
-use bench::table::inputs;
+use bench::table::{inputs, inputs_with};
 use bench::{intrinsics, speed};
-use lyra2_reference::{derive_recorded, Inputs, Settings};
+use derivation_link::Proved;
+use lyra2_reference::vectors::Subject;
+use lyra2_reference::{derive_recorded, Inputs, Mixer, Settings};
 
 type Derive = fn(&Inputs, &mut [u8], &mut [u64]);
 
-/// The programs of this package that have these settings; AVX2 is left out where the processor has none.
+/// The library, and the programs of this package that have these settings; AVX2 is left out where the processor has none.
 fn derivations(settings: Settings) -> Vec<(&'static str, Derive)> {
-    let mut all: Vec<(&str, Derive)> = vec![("Rust for speed", speed::derive)];
-    if settings != Settings::USUAL {
+    let mut all: Vec<(&str, Derive)> =
+        vec![("this library", proved), ("Rust for speed", speed::derive)];
+    if !intrinsics::have(settings) {
         return all;
     }
     all.push(("C, SSE2", intrinsics::derive_sse2));
@@ -24,19 +28,44 @@ fn derivations(settings: Settings) -> Vec<(&'static str, Derive)> {
     all
 }
 
+fn proved(inputs: &Inputs, key: &mut [u8], matrix: &mut [u64]) {
+    let answer = Proved.derive(inputs, key, matrix);
+    answer.expect("no check refuses");
+}
+
 /// Words lent past the used matrix, which have to be kept.
 const PAST: usize = 5;
 
+/// Compares with either mixer, and counts the visits that have one row for both.
+fn compare(inputs: &Inputs, key_len: usize) -> usize {
+    let with = |mixer| Inputs {
+        settings: Settings {
+            mixer,
+            ..inputs.settings
+        },
+        ..*inputs
+    };
+    compare_mixing(&with(Mixer::Plain), key_len) + compare_mixing(&with(Mixer::BlaMka), key_len)
+}
+
 /// Compares the key of every program with the second one's, finds the used matrix wiped and the words past it kept,
 /// and counts the visits that have one row for both. A wrong word of the matrix shows in the key only if a later call
-/// reads it, which not every word of a derivation is; the many shapes make up for that.
-fn compare(inputs: &Inputs, key_len: usize) -> usize {
+/// reads it, which not every word of a derivation is; the many shapes make up for that. The library's recorded derivation
+/// is compared whole.
+fn compare_mixing(inputs: &Inputs, key_len: usize) -> usize {
     let given = inputs.parameters(key_len);
     let used = given.matrix_words() as usize;
-    let mut due_key = vec![0; key_len];
-    let mut record = vec![0; given.record_words() as usize];
-    derive_recorded(inputs, &mut due_key, &mut vec![0; used], &mut record)
-        .expect("no check refuses");
+    let places = || {
+        let record = vec![0; given.record_words() as usize];
+        (vec![0; key_len], vec![0; used], record)
+    };
+    let (mut due_key, mut end_matrix, mut record) = places();
+    let answer = derive_recorded(inputs, &mut due_key, &mut end_matrix, &mut record);
+    let (mut key, mut matrix, mut visits) = places();
+    let proved = Proved.derive_recorded(inputs, &mut key, &mut matrix, &mut visits);
+    assert_eq!(proved, Some(answer), "the recorded answer of {inputs:?}");
+    let recorded = (key, matrix, visits) == (due_key.clone(), end_matrix, record.clone());
+    assert!(recorded, "key, end matrix or record of {inputs:?}");
     for (name, derive) in derivations(inputs.settings) {
         let mut key = vec![0xa5; key_len];
         let mut matrix: Vec<u64> = (0..used as u64).map(|place| !place).collect();
@@ -132,7 +161,7 @@ fn lengths_around_blocks_and_pieces() {
 }
 
 #[test]
-fn every_choice_of_rounds_and_rotation() {
+fn every_choice_of_rounds_rotation_and_mixer() {
     let (password, salt) = (bytes(19), bytes(16));
     for (rho, omega) in (1..=12).flat_map(|rho| (1..=11).map(move |omega| (rho, omega))) {
         for (t, r, c) in [(0, 9, 4), (1, 3, 1), (1, 20, 9), (2, 7, 16)] {
@@ -142,7 +171,11 @@ fn every_choice_of_rounds_and_rotation() {
                 t,
                 r,
                 c,
-                settings: Settings { rho, omega },
+                settings: Settings {
+                    rho,
+                    omega,
+                    ..Settings::USUAL
+                },
             };
             compare(&inputs, 100);
         }
@@ -150,9 +183,12 @@ fn every_choice_of_rounds_and_rotation() {
 }
 
 #[test]
-#[should_panic(expected = "the C programs have the usual settings alone")]
-fn a_c_program_is_not_asked_for_other_settings() {
-    let settings = Settings { rho: 1, omega: 1 };
+#[should_panic(expected = "the C programs have the usual rounds and rotation alone")]
+fn a_c_program_is_not_asked_for_another_rotation() {
+    let settings = Settings {
+        omega: 1,
+        ..Settings::USUAL
+    };
     intrinsics::derive_sse2(&Inputs { settings, ..SMALL }, &mut [0; 32], &mut [0; 36]);
 }
 
@@ -170,9 +206,11 @@ const SMALL: Inputs = Inputs {
 fn every_measured_program_leaves_what_is_due() {
     let (all, _) = programs::all();
     let all: Vec<&Program> = all.iter().collect();
-    let times = measure(&SMALL, &all, 3);
-    assert_eq!(times.len(), all.len());
-    assert!(times.iter().all(|times| times.minimum() <= times.median()));
+    for settings in [Settings::USUAL, settings::multiplying(Settings::USUAL)] {
+        let times = measure(&Inputs { settings, ..SMALL }, &all, 3);
+        assert_eq!(times.len(), all.len());
+        assert!(times.iter().all(|times| times.minimum() <= times.median()));
+    }
 }
 
 #[test]
@@ -195,7 +233,7 @@ fn all_settings_are_measured() {
     let named = |name| all.iter().find(|program| program.name == name);
     let both =
         [programs::PLAIN, programs::RUST_FOR_SPEED].map(|name| named(name).expect("a program"));
-    let given = SETTINGS.map(|settings| settings::with(settings, (32, 4)));
+    let given = SETTINGS.map(|settings| inputs_with(settings, (32, 4)));
     let times = settings::measure_all(&given, both, 3, 2);
     assert_eq!(times.len(), SETTINGS.len());
     for times in times.iter().flatten() {

@@ -7,7 +7,7 @@ use bench::plot::{svg, Line, Plot};
 use bench::programs::Program;
 use bench::{pages, settings, table};
 use lyra2_memory::Granted;
-use lyra2_reference::Settings;
+use lyra2_reference::{Mixer, Settings};
 
 fn plot(names: &[&str]) -> Plot {
     let line = |(place, name): (usize, &&str)| Line {
@@ -216,13 +216,17 @@ fn a_line_has_both_kinds_of_pages_and_their_ratio() {
     assert_eq!(pages::derivations(&inputs, &programs, &times), due);
     let title = "\n**0.0457763671875 MiB:** T 1, R 50, C 10, 3 turns\n";
     assert_eq!(table::title(&inputs, &times[0]), title);
+    let inputs = table::inputs_with(settings::multiplying(Settings::USUAL), (50, 10));
+    let title = "\n**0.0457763671875 MiB, BlaMka:** T 1, R 50, C 10, 3 turns\n";
+    assert_eq!(table::title(&inputs, &times[0]), title);
 }
 
 #[test]
 fn the_settings_have_a_line_each() {
-    let shape = (50, 10);
-    let given =
-        [(1, 2), (12, 11)].map(|(rho, omega)| settings::with(Settings { rho, omega }, shape));
+    let given = [(1, 2, Mixer::Plain), (12, 11, Mixer::BlaMka)].map(|(rho, omega, mixer)| {
+        let settings = Settings { rho, omega, mixer };
+        table::inputs_with(settings, (50, 10))
+    });
     let programs = [&program("library", true), &program("other", true)];
     let times = [
         [vec![3e-5, 2e-5, 4e-5], vec![4e-5, 2e-5, 5e-5]],
@@ -230,10 +234,10 @@ fn the_settings_have_a_line_each() {
     ];
     let times = times.map(|both| both.map(Times::new).to_vec());
     let due = "\
-| rounds, rotation; ns a reduced call | this library, plain | Rust for speed | to Rust for speed |
-| ---                                 |                ---: |           ---: |              ---: |
-| 1, 2                                |         20.0 / 30.0 |    20.0 / 40.0 |       1.00 / 0.75 |
-| 12, 11                              |       250.0 / 250.0 |  200.0 / 200.0 |       1.25 / 1.25 |
+| rounds, rotation, mixer; ns a reduced call | this library, plain | Rust for speed | to Rust for speed |
+| ---                                        |                ---: |           ---: |              ---: |
+| 1, 2, plain                                |         20.0 / 30.0 |    20.0 / 40.0 |       1.00 / 0.75 |
+| 12, 11, BlaMka                             |       250.0 / 250.0 |  200.0 / 200.0 |       1.25 / 1.25 |
 ";
     assert_eq!(settings::markdown(&given, programs, &times), due);
 }
