@@ -39,8 +39,8 @@ for op in derive_recorded derive check cost walk line_read line_write; do
     grep -qE " $lines $op( lines|,)" "$work/ran" || { echo "not all $lines lines of $op were run"; exit 1; }
 done
 
-# ---- wrong headers: a constant or a sentence changed. The usual settings are those of lines that have none.
-grep ' op=derive .* refusal=0 ' vectors/lyra2.txt | grep -v ' rho=' | sed -n 1,5p >"$work/few"
+# ---- wrong headers: a constant, a sentence or a declaration changed. The usual settings are those of lines that have none.
+grep ' op=derive .* refusal=0 ' vectors/lyra2.txt | grep -vE ' (rho|omega|mixer)=' | sed -n 1,5p >"$work/few"
 mkdir "$work/include"
 headers=0
 while read -r edit; do
@@ -48,11 +48,11 @@ while read -r edit; do
     ! cmp -s include/lyra2.h "$work/include/lyra2.h" || { echo "no header to spoil: $edit"; exit 1; }
     passes=yes
     for program in limits lines vectors; do
-        cc -std=c99 -I"$work/include" tests/c/{$program,fields,calls,line_calls,lent}.c "$library" -o "$work/wrong"
-        "$work/wrong" "$work/few" >"$work/log" 2>&1 || { passes=no; break; }
+        cc -std=c99 -I"$work/include" tests/c/{$program,fields,calls,line_calls,lent}.c "$library" -o "$work/wrong" \
+            >"$work/log" 2>&1 && "$work/wrong" "$work/few" >"$work/log" 2>&1 || { passes=no; break; }
     done
     [ $passes = no ] || { echo "a wrong header passes: $edit"; exit 1; }
-    grep -q '^FAILED: ' "$work/log" || { cat "$work/log"; exit 1; }
+    grep -qE '^FAILED: |: error: too many arguments to function' "$work/log" || { cat "$work/log"; exit 1; }
     headers=$((headers + 1))
 done <<'END'
 s/KEY_MIN 1/KEY_MIN 2/
@@ -77,6 +77,25 @@ s/ROTATION_MIN 1/ROTATION_MIN 2/
 s/ROTATION_MAX 11/ROTATION_MAX 10/
 s/ROTATION_MAX 11/ROTATION_MAX 12/
 s/ROTATION_USUAL 2/ROTATION_USUAL 1/
+s/MIXER_PLAIN false/MIXER_PLAIN true/
+s/MIXER_BLAMKA true/MIXER_BLAMKA false/
+s/MIXER_PLAIN false/MIXER_PLAIN true/; s/MIXER_BLAMKA true/MIXER_BLAMKA false/
+s/MIXER_USUAL LYRA2_MIXER_PLAIN/MIXER_USUAL LYRA2_MIXER_BLAMKA/
+s/, bool mixer,/,/
+/ lyra2_derive(/,/;/s/, bool mixer,/,/
+/ lyra2_derive_recorded(/,/;/s/, bool mixer,/,/
+/ lyra2_check(/,/;/s/, bool mixer,/,/
+s/size_t rotation, bool mixer,/bool mixer, size_t rotation,/
+/ lyra2_derive(/,/;/s/size_t rotation, bool mixer,/bool mixer, size_t rotation,/
+/ lyra2_derive_recorded(/,/;/s/size_t rotation, bool mixer,/bool mixer, size_t rotation,/
+/ lyra2_check(/,/;/s/size_t rotation, bool mixer,/bool mixer, size_t rotation,/
+s/size_t rounds, size_t rotation, bool mixer,/bool mixer, size_t rounds, size_t rotation,/
+s/bool mixer,/uint8_t mixer,/
+s/bool mixer,/uint32_t mixer,/
+s/bool mixer,/size_t mixer,/
+/ lyra2_derive(/,/;/s/bool mixer,/size_t mixer,/
+/ lyra2_derive_recorded(/,/;/s/bool mixer,/size_t mixer,/
+/ lyra2_check(/,/;/s/bool mixer,/size_t mixer,/
 s/CELL_WORDS 12/CELL_WORDS 11/
 s/(columns) + 2))/(columns) + 1))/
 s/REFUSED_ROWS = 5/REFUSED_ROWS = 6/; s/REFUSED_COLUMNS = 6/REFUSED_COLUMNS = 5/
@@ -105,12 +124,13 @@ END
 
 # ---- wrong vectors: the first accepted line of an operation with one field spoilt
 wrong=0
-for spoilt in derive_recorded:{key,state,full,reduced,rounds,matrix_sum,record_sum,matrix,record,rho,omega} \
-    derive:{key,matrix_sum,rho,omega} check:{answer,matrix_sum,full,rho,omega} cost:{full,rounds,rho} walk:row1 \
-    line_read:{T,R,C,salt,key} line_write:line; do
+for spoilt in derive_recorded:{key,state,full,reduced,rounds,matrix_sum,record_sum,matrix,record,rho,omega,mixer} \
+    derive:{key,matrix_sum,rho,omega,mixer} check:{answer,matrix_sum,full,rho,omega,mixer} cost:{full,rounds,rho} \
+    walk:row1 line_read:{T,R,C,salt,key} line_write:line; do
     field=${spoilt#*:}
     line=$(grep " op=${spoilt%:*} .* refusal=0 " vectors/lyra2.txt | grep " $field=" | grep -v " answer=no " | sed -n 1p)
     changed=$(sed -E "s/ $field=yes/ $field=NO/; s/ $field=no/ $field=yes/; s/ $field=NO/ $field=no/
+        s/ $field=blamka/ $field=plain/; t
         s/( $field=[^ ]*)0( |\$)/\11\2/; t; s/( $field=[^ ]*)[1-9a-f]( |\$)/\10\2/" <<<"$line")
     [ -n "$line" ] && [ "$line" != "$changed" ] || { echo "no line to spoil for $spoilt"; exit 1; }
     printf '%s\n' "$changed" >"$work/wrong"
@@ -122,24 +142,26 @@ done
 # ---- faulty libraries
 build_faulty() { # FAULT PROGRAM
     compile_fault "$1"
-    cc "$wrapped" "$work"/{"$2",calls,line_calls,lent}.o "${faulty[@]}" "$library" -o "$work/faulty" || exit 1
+    cc "$wrapped" "$work"/{"$2",fields,calls,line_calls,lent}.o "${faulty[@]}" "$library" -o "$work/faulty" || exit 1
 }
 is_found() { # FAULT PROGRAM..
     local program
     for program in "${@:2}"; do
         build_faulty "$1" $program
-        "$work/faulty" >"$work/log" 2>&1 || { grep -q "^FAILED: " "$work/log"; return; }
+        "$work/faulty" "$work/settings" >"$work/log" 2>&1 || { grep -q "^FAILED: " "$work/log"; return; }
     done
     return 1
 }
-for program in limits refusals lines; do
+# Where all operations take one mixer for the other they agree with one another, and the vectors alone tell.
+grep -E ' op=(derive|derive_recorded|check) .* rho=.* matrix_words=[0-9]{1,3} ' vectors/lyra2.txt >"$work/settings"
+for program in limits refusals vectors lines; do
     build_faulty 0 $program
-    "$work/faulty" >"$work/log" 2>&1 || { cat "$work/log"; echo 'the wrapped library without a fault fails'; exit 1; }
+    "$work/faulty" "$work/settings" >"$work/log" 2>&1 || { cat "$work/log"; echo 'the wrapped library without a fault fails'; exit 1; }
 done
 found=0
 # From 200 on in the settings of the plain derivation, the recorded one, the check, the cost question, and all of them.
-for fault in {1..54} {200..215} {220..235} {240..255} 263 264 267 269 274 275 {280..295}; do
-    is_found "$fault" limits refusals || { echo "fault $fault is not found"; exit 1; }
+for fault in {1..54} {200..227} {240..267} {280..307} 323 324 327 340 345 346 {360..387}; do
+    is_found "$fault" limits refusals vectors || { echo "fault $fault is not found"; exit 1; }
     found=$((found + 1))
 done
 for fault in {101..128} {131..142}; do
@@ -174,6 +196,10 @@ done <<'END'
 78 derive_recorded: 1 words on the stack depend on the password
 79 derive: the state from byte 0 on is left on the stack
 80 derive: the password from byte 0 on is left on the stack
+81 derive: the password from byte 0 on is left on the stack
+82 derive: the state from byte 0 on is left on the stack
+83 derive_recorded: the key from byte 0 on is left on the stack
+84 check: the key from byte 0 on is left on the stack
 171 line_read: the key from byte 0 on is left on the stack
 172 line_read: the text of the key from byte 3 on is left on the stack
 173 line_write: the key from byte 0 on is left on the stack

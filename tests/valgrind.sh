@@ -69,6 +69,7 @@ done <<'END'
 65 key: depends on what the memory held
 66 Invalid read of size 1
 67 Invalid read of size 1
+68 key: depends on what the memory held
 117 salt: written past its used part
 118 key: written past its used part
 119 Invalid write of size 1

@@ -21,12 +21,12 @@ compile() { # NAME..
 }
 
 # Compiles the faulty library to the objects `faulty`; `wrapped` is for the linker. Each source has a hundred of the numbers,
-# and is as good as without a fault for all others.
+# the last one all that follow, and is as good as without a fault for all others.
 compile_fault() { # FAULT
     local sources=(faulty faulty_lines faulty_settings) place own object
     faulty=()
     for place in "${!sources[@]}"; do
-        own=$(($1 / 100 == place ? $1 : 0))
+        own=$((($1 < 200 ? $1 / 100 : 2) == place ? $1 : 0))
         object=$work/${sources[place]}_$own.o
         [ -e "$object" ] || cc "${flags[@]}" -DFAULT="$own" -c "tests/c/${sources[place]}.c" -o "$object" || exit 1
         faulty+=("$object")

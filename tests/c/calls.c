@@ -2,6 +2,7 @@
 #include "calls.h"
 
 const char *const operation_names[OPERATIONS] = {"derive_recorded", "derive", "check", "cost"};
+const bool mixers[MIXERS] = {LYRA2_MIXER_PLAIN, LYRA2_MIXER_BLAMKA};
 size_t calls_made;
 
 const struct sizes accepted_sizes = {
@@ -13,6 +14,7 @@ const struct sizes accepted_sizes = {
     .columns = 1,
     .rounds = LYRA2_REDUCED_ROUNDS_USUAL,
     .rotation = LYRA2_ROTATION_USUAL,
+    .mixer = LYRA2_MIXER_USUAL,
     .matrix = 36,
     .record = 12,
 };
@@ -78,13 +80,14 @@ static uint32_t ask(struct call *call)
     switch (call->operation) {
     case RECORDED:
         return lyra2_derive_recorded(password, n->password, salt, n->salt, n->time, n->rows, n->columns, n->rounds,
-                                     n->rotation, key, n->key, matrix, n->matrix, record, n->record, state, counts);
+                                     n->rotation, n->mixer, key, n->key, matrix, n->matrix, record, n->record, state,
+                                     counts);
     case PLAIN:
         return lyra2_derive(password, n->password, salt, n->salt, n->time, n->rows, n->columns, n->rounds, n->rotation,
-                            key, n->key, matrix, n->matrix, counts);
+                            n->mixer, key, n->key, matrix, n->matrix, counts);
     case CHECK:
         return lyra2_check(password, n->password, salt, n->salt, n->time, n->rows, n->columns, n->rounds, n->rotation,
-                           key, n->key, matrix, n->matrix, lent_part(&call->same), counts);
+                           n->mixer, key, n->key, matrix, n->matrix, lent_part(&call->same), counts);
     default:
         return lyra2_cost(n->key, n->password, n->salt, n->time, n->rows, n->columns, n->rounds, counts);
     }

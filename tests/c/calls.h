@@ -9,10 +9,15 @@
 
 enum operation { RECORDED, PLAIN, CHECK, COST, OPERATIONS };
 
-/* The numbers of a call. Matrix and record are in words, the lengths in bytes. */
+/* The numbers of a call, and the mixer. Matrix and record are in words, the lengths in bytes. */
 struct sizes {
-    size_t key, password, salt, time, rows, columns, rounds, rotation, matrix, record;
+    size_t key, password, salt, time, rows, columns, rounds, rotation;
+    bool mixer;
+    size_t matrix, record;
 };
+
+enum { MIXERS = 2 };
+extern const bool mixers[MIXERS];
 
 /* Sizes that every operation accepts, with the usual settings and a matrix and a record that fit exactly. */
 extern const struct sizes accepted_sizes;

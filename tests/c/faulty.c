@@ -12,17 +12,18 @@
 
 #define DERIVE_PARAMETERS                                                                                          \
     const uint8_t *password, size_t password_len, const uint8_t *salt, size_t salt_len, size_t time, size_t rows, \
-        size_t columns, size_t rounds, size_t rotation, uint8_t *key, size_t key_len, uint64_t *matrix,            \
-        size_t matrix_words
+        size_t columns, size_t rounds, size_t rotation, bool mixer, uint8_t *key, size_t key_len,                  \
+        uint64_t *matrix, size_t matrix_words
 #define DERIVE_VALUES                                                                                              \
-    password, password_len, salt, salt_len, time, rows, columns, rounds, rotation, key, key_len, matrix, matrix_words
+    password, password_len, salt, salt_len, time, rows, columns, rounds, rotation, mixer, key, key_len, matrix,    \
+        matrix_words
 #define CHECK_PARAMETERS                                                                                           \
     const uint8_t *password, size_t password_len, const uint8_t *salt, size_t salt_len, size_t time, size_t rows, \
-        size_t columns, size_t rounds, size_t rotation, const uint8_t *stored, size_t stored_len,                  \
+        size_t columns, size_t rounds, size_t rotation, bool mixer, const uint8_t *stored, size_t stored_len,      \
         uint64_t *matrix, size_t matrix_words, uint32_t *same, uint64_t *counts
 #define CHECK_VALUES                                                                                               \
-    password, password_len, salt, salt_len, time, rows, columns, rounds, rotation, stored, stored_len, matrix,     \
-        matrix_words, same, counts
+    password, password_len, salt, salt_len, time, rows, columns, rounds, rotation, mixer, stored, stored_len,      \
+        matrix, matrix_words, same, counts
 #define COST_PARAMETERS                                                                                            \
     size_t key_len, size_t password_len, size_t salt_len, size_t time, size_t rows, size_t columns, size_t rounds, \
         uint64_t *counts
@@ -44,7 +45,7 @@ uint32_t __wrap_lyra2_walk(size_t rows, size_t row0, size_t *row1);
 static bool is_accepted(DERIVE_PARAMETERS)
 {
     uint64_t counts[LYRA2_COUNTS];
-    (void)password, (void)salt, (void)key, (void)matrix;
+    (void)password, (void)salt, (void)mixer, (void)key, (void)matrix;
     return __real_lyra2_cost(key_len, password_len, salt_len, time, rows, columns, rounds, counts) == LYRA2_ACCEPTED
         && LYRA2_ROTATION_MIN <= rotation && rotation <= LYRA2_ROTATION_MAX
         && matrix_words >= LYRA2_MATRIX_WORDS(rows, columns);
@@ -108,8 +109,8 @@ uint32_t __wrap_lyra2_derive(DERIVE_PARAMETERS, uint64_t *counts)
 {
     volatile uint8_t seen = 0;
     uint64_t spent = counts[LYRA2_ROUNDS];
-    struct given given = {rounds, rotation, matrix_words >= LYRA2_MATRIX_WORDS(rows, columns)};
-    bool looks = FAULT == 54 || FAULT == 62 || FAULT == 65;
+    struct given given = {rounds, rotation, mixer, matrix_words >= LYRA2_MATRIX_WORDS(rows, columns)};
+    bool looks = FAULT == 54 || FAULT == 62 || FAULT == 65 || FAULT == 68;
     uint64_t before = looks && is_accepted(DERIVE_VALUES) ? matrix[35] : 0;
     if (has(60, key_len == 0))
         seen = salt[0];
@@ -129,7 +130,7 @@ uint32_t __wrap_lyra2_derive(DERIVE_PARAMETERS, uint64_t *counts)
         return refuse(LYRA2_REFUSED_SALT_TOO_LONG, counts);
     if (has(29, salt_len == LYRA2_SALT_MAX + 1))
         salt_len--;
-    spoil_settings(OF_DERIVE, &rounds, &rotation);
+    spoil_settings(OF_DERIVE, &rounds, &rotation, &mixer);
     uint32_t answer = __real_lyra2_derive(DERIVE_VALUES, counts);
     bool accepted = answer == LYRA2_ACCEPTED;
     if (has(30, answer == LYRA2_REFUSED_SALT_TOO_LONG))
@@ -162,7 +163,7 @@ uint32_t __wrap_lyra2_derive(DERIVE_PARAMETERS, uint64_t *counts)
         matrix[35] = before;
     if (has(61, accepted))
         seen = password[password_len];
-    if (has(62, accepted) || has(65, accepted && rotation != LYRA2_ROTATION_USUAL))
+    if (has(62, accepted) || has(65, accepted && rotation != LYRA2_ROTATION_USUAL) || has(68, accepted && mixer))
         key[0] ^= (uint8_t)before;
     if (has(66, answer == LYRA2_REFUSED_ROUNDS) || has(67, answer == LYRA2_REFUSED_ROTATION))
         seen = salt[0];
@@ -170,9 +171,9 @@ uint32_t __wrap_lyra2_derive(DERIVE_PARAMETERS, uint64_t *counts)
         leave(key, key_len);
     if (has(71, accepted))
         leave(key + key_len - 1, 1);
-    if (has(72, accepted) || has(80, accepted && rounds == LYRA2_REDUCED_ROUNDS_MAX))
+    if (has(72, accepted) || has(80, accepted && rounds == LYRA2_REDUCED_ROUNDS_MAX) || has(81, accepted && mixer))
         leave(password, password_len);
-    if (has(73, accepted) || has(79, accepted && rotation != LYRA2_ROTATION_USUAL)) {
+    if (has(73, accepted) || has(79, accepted && rotation != LYRA2_ROTATION_USUAL) || has(82, accepted && mixer)) {
         record_instead(DERIVE_VALUES);
         fill(matrix, 0, LYRA2_MATRIX_WORDS(rows, columns), 0);
     }
@@ -184,8 +185,8 @@ uint32_t __wrap_lyra2_derive_recorded(DERIVE_PARAMETERS, uint64_t *record, size_
                                       uint64_t *counts)
 {
     uint64_t last_word = state[LYRA2_STATE_WORDS - 1], full = counts[LYRA2_FULL_CALLS];
-    struct given given = {rounds, rotation, matrix_words >= LYRA2_MATRIX_WORDS(rows, columns)};
-    spoil_settings(OF_RECORDED, &rounds, &rotation);
+    struct given given = {rounds, rotation, mixer, matrix_words >= LYRA2_MATRIX_WORDS(rows, columns)};
+    spoil_settings(OF_RECORDED, &rounds, &rotation, &mixer);
     uint32_t answer = __real_lyra2_derive_recorded(DERIVE_VALUES, record, record_words, state, counts);
     bool accepted = answer == LYRA2_ACCEPTED;
     if (has(10, accepted))
@@ -206,7 +207,7 @@ uint32_t __wrap_lyra2_derive_recorded(DERIVE_PARAMETERS, uint64_t *record, size_
         matrix[LYRA2_MATRIX_WORDS(rows, columns) - 1] = 0;
     if (has(63, !accepted && record_words > 0))
         *(volatile uint64_t *)record = *(volatile uint64_t *)record;
-    if (has(77, accepted))
+    if (has(77, accepted) || has(83, accepted && mixer))
         leave(key, key_len);
     if (has(78, accepted))
         leave(key + key_len - 1, 1);
@@ -227,8 +228,8 @@ uint32_t __wrap_lyra2_check(CHECK_PARAMETERS)
     uint8_t key[LYRA2_KEY_MAX];
     uint32_t flag = *same;
     uint64_t reduced = counts[LYRA2_REDUCED_CALLS];
-    struct given given = {rounds, rotation, matrix_words >= LYRA2_MATRIX_WORDS(rows, columns)};
-    spoil_settings(OF_CHECK, &rounds, &rotation);
+    struct given given = {rounds, rotation, mixer, matrix_words >= LYRA2_MATRIX_WORDS(rows, columns)};
+    spoil_settings(OF_CHECK, &rounds, &rotation, &mixer);
     uint32_t answer = __real_lyra2_check(CHECK_VALUES);
     bool accepted = answer == LYRA2_ACCEPTED;
     if (has(14, !accepted))
@@ -242,21 +243,21 @@ uint32_t __wrap_lyra2_check(CHECK_PARAMETERS)
     if (has(16, accepted))
         *same = 1;
     if (accepted)
-        spoil_matrix(FAULT - 43, password, password_len, salt, salt_len, time, rows, columns, rounds, rotation, key,
-                     stored_len, matrix, matrix_words);
+        spoil_matrix(FAULT - 43, password, password_len, salt, salt_len, time, rows, columns, rounds, rotation, mixer,
+                     key, stored_len, matrix, matrix_words);
     if (has(50, !accepted))
         fill(matrix, 0, matrix_words, 0);
     if (has(51, accepted && *same == 0))
         matrix[0] = 1;
-    if (has(74, accepted))
+    if (has(74, accepted) || has(84, accepted && mixer && rounds > 1))
         leave(stored, stored_len);
     if (has(75, accepted))
         leave(stored + stored_len - 1, 1);
     if (has(76, accepted))
         leave(password, password_len);
     if (FAULT == 64 && accepted
-        && __real_lyra2_derive(password, password_len, salt, salt_len, time, rows, columns, rounds, rotation, key,
-                               stored_len, matrix, matrix_words, counts) == LYRA2_ACCEPTED)
+        && __real_lyra2_derive(password, password_len, salt, salt_len, time, rows, columns, rounds, rotation, mixer,
+                               key, stored_len, matrix, matrix_words, counts) == LYRA2_ACCEPTED)
         *same = compare_early(stored, key, stored_len);
     return spoil_answer(OF_CHECK, given, answer, counts);
 }
@@ -264,9 +265,10 @@ uint32_t __wrap_lyra2_check(CHECK_PARAMETERS)
 uint32_t __wrap_lyra2_cost(COST_PARAMETERS)
 {
     uint64_t spent = counts[LYRA2_ROUNDS];
-    struct given given = {rounds, LYRA2_ROTATION_USUAL, true};
+    struct given given = {rounds, LYRA2_ROTATION_USUAL, LYRA2_MIXER_USUAL, true};
     size_t rotation = given.rotation;
-    spoil_settings(OF_COST, &rounds, &rotation);
+    bool mixer = given.mixer;
+    spoil_settings(OF_COST, &rounds, &rotation, &mixer);
     uint32_t answer = __real_lyra2_cost(key_len, password_len, salt_len, time, rows, columns, rounds, counts);
     if (has(17, answer == LYRA2_ACCEPTED))
         counts[LYRA2_FULL_CALLS]++;

@@ -15,14 +15,14 @@ static inline bool has(int fault, bool condition)
 /* The settings that a call is given, and whether its matrix is long enough. */
 struct given {
     size_t rounds, rotation;
-    bool matrix_fits;
+    bool mixer, matrix_fits;
 };
 
 /* The first fault in the settings of each operation, and of all operations at once. */
-enum { OF_DERIVE = 200, OF_RECORDED = 220, OF_CHECK = 240, OF_COST = 260, OF_ALL = 280 };
+enum { OF_DERIVE = 200, OF_RECORDED = 240, OF_CHECK = 280, OF_COST = 320, OF_ALL = 360 };
 
 /* Changes the settings before they reach the library. */
-void spoil_settings(int first, size_t *rounds, size_t *rotation);
+void spoil_settings(int first, size_t *rounds, size_t *rotation, bool *mixer);
 
 /* The number in the place of the library's, which was given spoilt settings; changes the counts of an accepted call. */
 uint32_t spoil_answer(int first, struct given given, uint32_t answer, uint64_t *counts);

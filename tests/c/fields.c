@@ -83,6 +83,14 @@ size_t number_or(struct text line, const char *name, size_t otherwise)
     return find(line, name, &value) ? require_number(line, name) : otherwise;
 }
 
+bool require_choice(struct text line, const char *name, const char *no, const char *yes)
+{
+    struct text value = require_field(line, name);
+    if (!is(value, no) && !is(value, yes))
+        fail("%s is neither %s nor %s", name, no, yes);
+    return is(value, yes);
+}
+
 static uint64_t hexadecimal(const char *digits, size_t count)
 {
     uint64_t value = 0;

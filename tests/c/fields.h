@@ -19,6 +19,7 @@ bool find(struct text line, const char *name, struct text *value);
 struct text require_field(struct text line, const char *name);
 size_t require_number(struct text line, const char *name);
 size_t number_or(struct text line, const char *name, size_t otherwise); /* or this, if the line has no such field */
+bool require_choice(struct text line, const char *name, const char *no, const char *yes); /* one of the two words */
 uint64_t require_word(struct text line, const char *name);
 
 /* As many words as are asked for, with commas between them. */

@@ -35,13 +35,14 @@ static void call(void)
     const struct sizes *n = &sizes;
     if (operation == RECORDED)
         answer = lyra2_derive_recorded(password, n->password, salt, n->salt, n->time, n->rows, n->columns, n->rounds,
-                                       n->rotation, key, n->key, matrix, n->matrix, record, n->record, state, counts);
+                                       n->rotation, n->mixer, key, n->key, matrix, n->matrix, record, n->record, state,
+                                       counts);
     else if (operation == PLAIN)
         answer = lyra2_derive(password, n->password, salt, n->salt, n->time, n->rows, n->columns, n->rounds,
-                              n->rotation, key, n->key, matrix, n->matrix, counts);
+                              n->rotation, n->mixer, key, n->key, matrix, n->matrix, counts);
     else
         answer = lyra2_check(password, n->password, salt, n->salt, n->time, n->rows, n->columns, n->rounds,
-                             n->rotation, key, n->key, matrix, n->matrix, &same, counts);
+                             n->rotation, n->mixer, key, n->key, matrix, n->matrix, &same, counts);
 }
 
 /* Whether eight bytes stand on the used part of a side's stack. */
@@ -163,7 +164,7 @@ static void require_sight(struct side *one, struct side *other)
         fail("%zu and %zu words are seen to differ", before, after);
 }
 
-/* One shape, with the rounds and the rotation that `sizes` has. */
+/* One shape, with the settings that `sizes` has. */
 static void require_shape(size_t time, size_t rows, size_t columns, size_t key_bytes, size_t password_bytes)
 {
     static struct side one, other;
@@ -183,6 +184,7 @@ static void require_shape(size_t time, size_t rows, size_t columns, size_t key_b
         require_sight(&one, &other);
 }
 
+/* Other rounds and rotations, with the mixer that `sizes` has. */
 static void require_settings(size_t rounds, size_t rotation)
 {
     sizes.rounds = rounds;
@@ -194,12 +196,13 @@ static void require_settings(size_t rounds, size_t rotation)
     }
 }
 
-int main(void)
+static void require_mixer(bool mixer)
 {
     static const size_t keys[] = {LYRA2_KEY_MAX, 200, 192, 97, 96, 95, 32, 8, 1};
     static const size_t passwords[] = {LYRA2_PASSWORD_MAX, 100, 64, 32, 31, 20, 8, 1};
     sizes = accepted_sizes;
     sizes.salt = LYRA2_SALT_MAX;
+    sizes.mixer = mixer;
     for (size_t time = 0; time <= MOST_TIME; time++)
         for (size_t i = 0; i < sizeof keys / sizeof *keys; i++)
             for (size_t j = 0; j < sizeof passwords / sizeof *passwords; j++)
@@ -210,6 +213,12 @@ int main(void)
     require_settings(LYRA2_REDUCED_ROUNDS_MAX, LYRA2_ROTATION_MAX);
     require_settings(2, LYRA2_ROTATION_MIN);
     require_settings(3, 5);
+}
+
+int main(void)
+{
+    for (size_t i = 0; i < MIXERS; i++)
+        require_mixer(mixers[i]);
     printf("left on the stack: none of %zu words; in %zu pairs of calls at most %zu bytes of picks differ\n", searched,
            pairs, most_bytes);
     return 0;

@@ -67,8 +67,9 @@ static void require_agreement(struct sizes sizes)
     make_call(&plain, PLAIN, sizes, contents);
     make_call(&cost, COST, sizes, nothing);
     if (recorded.answer != LYRA2_ACCEPTED || plain.answer != LYRA2_ACCEPTED || cost.answer != LYRA2_ACCEPTED)
-        fail("answers %u, %u, %u at T %zu, R %zu, C %zu, rounds %zu, rotation %zu", recorded.answer, plain.answer,
-             cost.answer, sizes.time, sizes.rows, sizes.columns, sizes.rounds, sizes.rotation);
+        fail("answers %u, %u, %u at T %zu, R %zu, C %zu, rounds %zu, rotation %zu, mixer %d", recorded.answer,
+             plain.answer, cost.answer, sizes.time, sizes.rows, sizes.columns, sizes.rounds, sizes.rotation,
+             sizes.mixer);
     require_same(&recorded.key, &plain.key, sizes.key, "key");
     require_same(&recorded.counts, &plain.counts, 8 * LYRA2_COUNTS, "counts");
     require_same(&recorded.counts, &cost.counts, 8 * LYRA2_COUNTS, "counts and cost");
@@ -183,22 +184,49 @@ static void derive_from_zeros(const struct sizes *sizes, uint8_t *key)
     end_call(&call);
 }
 
-/* All rounds and rotations go together, and no two choices give the same key. */
-static void require_settings(void)
+/* The key is none of those before. */
+static void require_new_key(const struct sizes *n)
 {
-    static uint8_t keys[LYRA2_REDUCED_ROUNDS_MAX * LYRA2_ROTATION_MAX][LYRA2_KEY_MAX];
-    struct sizes n = {.key = 32, .password = 20, .salt = 16, .time = 2, .rows = 5, .columns = 4};
-    size_t count = 0;
+    static uint8_t keys[MIXERS * LYRA2_REDUCED_ROUNDS_MAX * LYRA2_ROTATION_MAX][LYRA2_KEY_MAX];
+    static size_t count;
+    derive_from_zeros(n, keys[count]);
+    for (size_t i = 0; i < count; i++)
+        if (memcmp(keys[i], keys[count], n->key) == 0)
+            fail("choices %zu and %zu of the settings give the same key", i, count);
+    count++;
+}
+
+/* All rounds, rotations and mixers go together, and no two choices give the same key. */
+static void require_settings(bool mixer)
+{
+    struct sizes n = {.key = 32, .password = 20, .salt = 16, .time = 2, .rows = 5, .columns = 4, .mixer = mixer};
     for (n.rounds = LYRA2_REDUCED_ROUNDS_MIN; n.rounds <= LYRA2_REDUCED_ROUNDS_MAX; n.rounds++)
         for (n.rotation = LYRA2_ROTATION_MIN; n.rotation <= LYRA2_ROTATION_MAX; n.rotation++) {
             n = fitting(n);
             require_agreement(n);
-            derive_from_zeros(&n, keys[count]);
-            for (size_t i = 0; i < count; i++)
-                if (memcmp(keys[i], keys[count], n.key) == 0)
-                    fail("choices %zu and %zu of rounds and rotation give the same key", i, count);
-            count++;
+            require_new_key(&n);
         }
+}
+
+/* What C converts to the mixer's bool: every number but 0 is BlaMka, whatever its lowest byte is. */
+static void require_conversion(size_t number)
+{
+    const size_t rounds = LYRA2_REDUCED_ROUNDS_USUAL, rotation = LYRA2_ROTATION_USUAL;
+    const uint8_t password[8] = {1}, salt[LYRA2_SALT_MIN] = {2};
+    uint8_t due[32], derived[32], recorded[32];
+    uint64_t matrix[LYRA2_MATRIX_WORDS(3, 1)], record[LYRA2_RECORD_WORDS(1, 3, 1)], state[LYRA2_STATE_WORDS];
+    uint64_t counts[LYRA2_COUNTS];
+    uint32_t same = 0;
+    if (lyra2_derive(password, 8, salt, sizeof salt, 1, 3, 1, rounds, rotation, LYRA2_MIXER_BLAMKA, due, 32, matrix, 36,
+                     counts) != LYRA2_ACCEPTED
+        || lyra2_derive(password, 8, salt, sizeof salt, 1, 3, 1, rounds, rotation, number, derived, 32, matrix, 36,
+                        counts) != LYRA2_ACCEPTED
+        || lyra2_derive_recorded(password, 8, salt, sizeof salt, 1, 3, 1, rounds, rotation, number, recorded, 32,
+                                 matrix, 36, record, 12, state, counts) != LYRA2_ACCEPTED
+        || lyra2_check(password, 8, salt, sizeof salt, 1, 3, 1, rounds, rotation, number, due, 32, matrix, 36, &same,
+                       counts) != LYRA2_ACCEPTED
+        || memcmp(derived, due, sizeof due) != 0 || memcmp(recorded, due, sizeof due) != 0 || same != 1)
+        fail("mixer %zu is not BlaMka", number);
 }
 
 static void require_walk_limits(void)
@@ -234,15 +262,18 @@ static void require_overlap(void)
     uint8_t bytes[64], password[40], salt[16], key[32];
     uint64_t matrix[LYRA2_MATRIX_WORDS(3, 1)], counts[LYRA2_COUNTS];
     const size_t rounds = LYRA2_REDUCED_ROUNDS_USUAL, rotation = LYRA2_ROTATION_USUAL;
+    const bool mixer = LYRA2_MIXER_USUAL;
     uint32_t right = 0, wrong = 1;
     for (size_t i = 0; i < sizeof bytes; i++)
         bytes[i] = (uint8_t)(i * i);
     memcpy(password, bytes, sizeof password);
     memcpy(salt, bytes + 32, sizeof salt);
-    if (lyra2_derive(password, 40, salt, 16, 1, 3, 1, rounds, rotation, key, 32, matrix, 36, counts) != LYRA2_ACCEPTED
-        || lyra2_check(bytes, 40, bytes + 32, 16, 1, 3, 1, rounds, rotation, key, 32, matrix, 36, &right, counts)
+    if (lyra2_derive(password, 40, salt, 16, 1, 3, 1, rounds, rotation, mixer, key, 32, matrix, 36, counts)
             != LYRA2_ACCEPTED
-        || lyra2_check(bytes, 40, bytes + 32, 16, 1, 3, 1, rounds, rotation, bytes + 4, 32, matrix, 36, &wrong, counts)
+        || lyra2_check(bytes, 40, bytes + 32, 16, 1, 3, 1, rounds, rotation, mixer, key, 32, matrix, 36, &right, counts)
+            != LYRA2_ACCEPTED
+        || lyra2_check(bytes, 40, bytes + 32, 16, 1, 3, 1, rounds, rotation, mixer, bytes + 4, 32, matrix, 36, &wrong,
+                       counts)
             != LYRA2_ACCEPTED
         || right != 1 || wrong != 0)
         fail("overlap: the check said %u of the key and %u of other bytes", right, wrong);
@@ -259,7 +290,10 @@ int main(void)
     require_least_words(3, 100, 33);
     require_least_words(LYRA2_TIME_MAX, 3, LYRA2_COLUMNS_MAX);
     require_least_words(1, LYRA2_ROWS_MAX, 2);
-    require_settings();
+    for (size_t i = 0; i < MIXERS; i++)
+        require_settings(mixers[i]);
+    for (size_t number = 1; number != 0; number <<= 1)
+        require_conversion(number);
     require_walk_limits();
     require_own_sentences();
     require_overlap();

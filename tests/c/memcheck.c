@@ -52,22 +52,22 @@ static uint32_t derive_recorded(const struct sizes *n, struct memory *m)
 {
     calls_made++;
     return lyra2_derive_recorded(m->password, n->password, m->salt, n->salt, n->time, n->rows, n->columns, n->rounds,
-                                 n->rotation, m->key, n->key, m->matrix, n->matrix, m->record, n->record, m->state,
-                                 m->counts);
+                                 n->rotation, n->mixer, m->key, n->key, m->matrix, n->matrix, m->record, n->record,
+                                 m->state, m->counts);
 }
 
 static uint32_t derive(const struct sizes *n, struct memory *m)
 {
     calls_made++;
     return lyra2_derive(m->password, n->password, m->salt, n->salt, n->time, n->rows, n->columns, n->rounds,
-                        n->rotation, m->key, n->key, m->matrix, n->matrix, m->counts);
+                        n->rotation, n->mixer, m->key, n->key, m->matrix, n->matrix, m->counts);
 }
 
 static uint32_t check(const struct sizes *n, struct memory *m)
 {
     calls_made++;
     return lyra2_check(m->password, n->password, m->salt, n->salt, n->time, n->rows, n->columns, n->rounds, n->rotation,
-                       m->stored, n->key, m->matrix, n->matrix, m->same, m->counts);
+                       n->mixer, m->stored, n->key, m->matrix, n->matrix, m->same, m->counts);
 }
 
 static void require_accepted(uint32_t answer)
@@ -144,9 +144,10 @@ static void require_refused(struct sizes n, uint32_t due)
     take_all_back(&m);
 }
 
-static void require_refusals(void)
+static void require_refusals(bool mixer)
 {
-    const struct sizes n = accepted_sizes;
+    struct sizes n = accepted_sizes;
+    n.mixer = mixer;
     struct sizes wrong[] = {n, n, n, n, n, n, n, n}, rounds = n, rotation = n;
     wrong[0].key = 0;
     wrong[1].password = LYRA2_PASSWORD_MAX + 1;
@@ -190,15 +191,15 @@ static void require_sizes(struct sizes n)
 static void require_shape(size_t time, size_t rows, size_t columns, size_t key, size_t password, size_t salt)
 {
     require_sizes((struct sizes){key, password, salt, time, rows, columns, LYRA2_REDUCED_ROUNDS_USUAL,
-                                 LYRA2_ROTATION_USUAL, 0, 0});
+                                 LYRA2_ROTATION_USUAL, LYRA2_MIXER_USUAL, 0, 0});
 }
 
 /* Other settings, with Setup alone and with visits. */
-static void require_settings(size_t rounds, size_t rotation)
+static void require_settings(size_t rounds, size_t rotation, bool mixer)
 {
     for (size_t time = 0; time <= 2; time++)
         for (size_t columns = 1; columns <= 16; columns *= 4)
-            require_sizes((struct sizes){97, 33, 9, time, 9, columns, rounds, rotation, 0, 0});
+            require_sizes((struct sizes){97, 33, 9, time, 9, columns, rounds, rotation, mixer, 0, 0});
 }
 
 static void require_cost_and_walk(void)
@@ -229,7 +230,8 @@ int main(void)
     static const size_t columns[] = {1, 2, 3, 15, 16, 17, 32, 64, 100, 128, 256};
     if (!RUNNING_ON_VALGRIND)
         fail("this program tells nothing outside of valgrind");
-    require_refusals();
+    for (size_t i = 0; i < MIXERS; i++)
+        require_refusals(mixers[i]);
     require_cost_and_walk();
     for (size_t i = 0; i < sizeof keys / sizeof *keys; i++)
         for (size_t j = 0; j < sizeof passwords / sizeof *passwords; j++)
@@ -241,11 +243,14 @@ int main(void)
     require_shape(2, 65, 16, 64, 20, 16);
     require_shape(1, 256, 64, 32, 20, 16);
     require_shape(LYRA2_TIME_MAX, 3, 1, 64, 20, 16);
-    require_settings(LYRA2_REDUCED_ROUNDS_USUAL, LYRA2_ROTATION_MAX);
-    require_settings(LYRA2_REDUCED_ROUNDS_MAX, LYRA2_ROTATION_USUAL);
-    require_settings(LYRA2_REDUCED_ROUNDS_MAX, LYRA2_ROTATION_MAX);
-    require_settings(2, LYRA2_ROTATION_MIN);
-    require_settings(3, 5);
+    for (size_t i = 0; i < MIXERS; i++) {
+        require_settings(LYRA2_REDUCED_ROUNDS_USUAL, LYRA2_ROTATION_USUAL, mixers[i]);
+        require_settings(LYRA2_REDUCED_ROUNDS_USUAL, LYRA2_ROTATION_MAX, mixers[i]);
+        require_settings(LYRA2_REDUCED_ROUNDS_MAX, LYRA2_ROTATION_USUAL, mixers[i]);
+        require_settings(LYRA2_REDUCED_ROUNDS_MAX, LYRA2_ROTATION_MAX, mixers[i]);
+        require_settings(2, LYRA2_ROTATION_MIN, mixers[i]);
+        require_settings(3, 5, mixers[i]);
+    }
     printf("memcheck: %zu calls\n", calls_made);
     return 0;
 }

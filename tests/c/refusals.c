@@ -6,6 +6,9 @@
 
 enum { SIDES = 3, LOW = 0, HIGH = 1, FAR = 2 };
 
+/* The accepted sizes with the mixer that is being tried; no refusal may depend on it. */
+static struct sizes base;
+
 static bool set(size_t *place, size_t value)
 {
     *place = value;
@@ -49,9 +52,9 @@ static bool make_apply(struct sizes *n, uint32_t check, int side, enum operation
     case LYRA2_REFUSED_ROTATION:
         return set_number(&n->rotation, side, LYRA2_ROTATION_MIN - 1, LYRA2_ROTATION_MAX + 1);
     case LYRA2_REFUSED_MATRIX:
-        return side != FAR && set(&n->matrix, side == LOW ? 0 : accepted_sizes.matrix - 1);
+        return side != FAR && set(&n->matrix, side == LOW ? 0 : base.matrix - 1);
     default:
-        return side != FAR && set(&n->record, side == LOW ? 0 : accepted_sizes.record - 1);
+        return side != FAR && set(&n->record, side == LOW ? 0 : base.record - 1);
     }
 }
 
@@ -61,9 +64,9 @@ static void require_answer(enum operation operation, struct sizes sizes, uint32_
     make_call(&call, operation, sizes, (struct contents){NULL, NULL, NULL});
     if (call.answer != due)
         fail("%s: %u is due, %u was answered: key %zu, password %zu, salt %zu, T %zu, R %zu, C %zu, rounds %zu, "
-             "rotation %zu, matrix %zu, record %zu", operation_names[operation], due, call.answer, sizes.key,
+             "rotation %zu, mixer %d, matrix %zu, record %zu", operation_names[operation], due, call.answer, sizes.key,
              sizes.password, sizes.salt, sizes.time, sizes.rows, sizes.columns, sizes.rounds, sizes.rotation,
-             sizes.matrix, sizes.record);
+             sizes.mixer, sizes.matrix, sizes.record);
     end_call(&call);
 }
 
@@ -76,7 +79,7 @@ static bool exclude_each_other(uint32_t check, uint32_t later)
 /* One check from one side, alone and with each later check of the operation from each of its sides. */
 static void pair_with_later(enum operation operation, const uint32_t *check, int side)
 {
-    struct sizes one = accepted_sizes;
+    struct sizes one = base;
     if (!make_apply(&one, *check, side, operation))
         return;
     require_answer(operation, one, *check);
@@ -93,7 +96,7 @@ static void pair_with_later(enum operation operation, const uint32_t *check, int
 static void ignore_check(enum operation operation, uint32_t check)
 {
     for (int side = 0; side < SIDES; side++) {
-        struct sizes one = accepted_sizes;
+        struct sizes one = base;
         if (make_apply(&one, check, side, operation))
             require_answer(operation, one, LYRA2_ACCEPTED);
     }
@@ -121,16 +124,24 @@ static void pair_walk(void)
         require_walk(8, wrong[j], LYRA2_REFUSED_ROW0);
 }
 
+static void pair_checks(enum operation operation)
+{
+    require_answer(operation, base, LYRA2_ACCEPTED);
+    for (const uint32_t *check = checks_of[operation]; *check != LYRA2_ACCEPTED; check++)
+        for (int side = 0; side < SIDES; side++)
+            pair_with_later(operation, check, side);
+    for (const uint32_t *check = checks_of[RECORDED]; *check != LYRA2_ACCEPTED; check++)
+        if (!has_check(operation, *check))
+            ignore_check(operation, *check);
+}
+
 int main(void)
 {
-    for (enum operation operation = RECORDED; operation < OPERATIONS; operation++) {
-        require_answer(operation, accepted_sizes, LYRA2_ACCEPTED);
-        for (const uint32_t *check = checks_of[operation]; *check != LYRA2_ACCEPTED; check++)
-            for (int side = 0; side < SIDES; side++)
-                pair_with_later(operation, check, side);
-        for (const uint32_t *check = checks_of[RECORDED]; *check != LYRA2_ACCEPTED; check++)
-            if (!has_check(operation, *check))
-                ignore_check(operation, *check);
+    base = accepted_sizes;
+    for (size_t i = 0; i < MIXERS; i++) {
+        base.mixer = mixers[i];
+        for (enum operation operation = RECORDED; operation < OPERATIONS; operation++)
+            pair_checks(operation);
     }
     pair_walk();
     printf("refusals in pairs: %zu calls\n", calls_made);

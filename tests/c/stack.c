@@ -19,7 +19,7 @@ static size_t row1;
 static uint8_t line[LYRA2_LINE_MAX], read_salt[LYRA2_SALT_MAX];
 static size_t line_len, values[LYRA2_LINE_VALUES];
 
-/* Rounds and rotation; the usual ones have code of their own. */
+/* Rounds and rotation; the usual ones have code of their own. So has each mixer. */
 static const size_t settings[][2] = {
     {LYRA2_REDUCED_ROUNDS_USUAL, LYRA2_ROTATION_USUAL},
     {LYRA2_REDUCED_ROUNDS_USUAL, LYRA2_ROTATION_MAX},
@@ -29,23 +29,24 @@ static const size_t settings[][2] = {
 
 static int operation;
 static size_t rounds, rotation;
+static bool mixer;
 
 static void call(void)
 {
     size_t matrix_words = sizeof matrix / sizeof *matrix, record_words = sizeof record / sizeof *record;
     switch (operation) {
     case 0:
-        answer = lyra2_derive(password, sizeof password, salt, sizeof salt, TIME, ROWS, COLUMNS, rounds, rotation, key,
-                              sizeof key, matrix, matrix_words, counts);
+        answer = lyra2_derive(password, sizeof password, salt, sizeof salt, TIME, ROWS, COLUMNS, rounds, rotation,
+                              mixer, key, sizeof key, matrix, matrix_words, counts);
         break;
     case 1:
         answer = lyra2_derive_recorded(password, sizeof password, salt, sizeof salt, TIME, ROWS, COLUMNS, rounds,
-                                       rotation, key, sizeof key, matrix, matrix_words, record, record_words, state,
-                                       counts);
+                                       rotation, mixer, key, sizeof key, matrix, matrix_words, record, record_words,
+                                       state, counts);
         break;
     case 2:
-        answer = lyra2_check(password, sizeof password, salt, sizeof salt, TIME, ROWS, COLUMNS, rounds, rotation, key,
-                             sizeof key, matrix, matrix_words, &same, counts);
+        answer = lyra2_check(password, sizeof password, salt, sizeof salt, TIME, ROWS, COLUMNS, rounds, rotation, mixer,
+                             key, sizeof key, matrix, matrix_words, &same, counts);
         break;
     case 3:
         answer = lyra2_cost(sizeof key, sizeof password, sizeof salt, TIME, ROWS, COLUMNS, rounds, counts);
@@ -62,10 +63,11 @@ static void call(void)
     }
 }
 
-/* The most that the operation uses with any of the settings. */
-static size_t most_used(void)
+/* The most that the operation uses with a mixer and any of the other settings. */
+static size_t most_with(bool given)
 {
     size_t most = 0;
+    mixer = given;
     for (size_t i = 0; i < sizeof settings / sizeof *settings; i++) {
         rounds = settings[i][0];
         rotation = settings[i][1];
@@ -75,6 +77,12 @@ static size_t most_used(void)
         most = used > most ? used : most;
     }
     return most;
+}
+
+static size_t most_used(void)
+{
+    size_t plain = most_with(LYRA2_MIXER_PLAIN), blamka = most_with(LYRA2_MIXER_BLAMKA);
+    return plain > blamka ? plain : blamka;
 }
 
 int main(void)

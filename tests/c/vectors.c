@@ -30,6 +30,14 @@ static uint64_t checksum(const uint64_t *words, size_t count)
     return sum;
 }
 
+static bool read_mixer(struct text line)
+{
+    struct text value;
+    if (!find(line, "mixer", &value))
+        return LYRA2_MIXER_USUAL;
+    return require_choice(line, "mixer", "plain", "blamka") ? LYRA2_MIXER_BLAMKA : LYRA2_MIXER_PLAIN;
+}
+
 static struct question read_question(struct text line, enum operation operation)
 {
     struct question asked = {no_sizes, NULL, NULL, NULL};
@@ -39,6 +47,7 @@ static struct question read_question(struct text line, enum operation operation)
     n->columns = require_number(line, "C");
     n->rounds = number_or(line, "rho", LYRA2_REDUCED_ROUNDS_USUAL);
     n->rotation = number_or(line, "omega", LYRA2_ROTATION_USUAL);
+    n->mixer = read_mixer(line);
     if (operation == COST) {
         n->password = require_number(line, "password_len");
         n->salt = require_number(line, "salt_len");
@@ -147,19 +156,11 @@ static void require_others(struct text line, struct question asked)
     free(key);
 }
 
-static uint32_t due_flag(struct text line)
-{
-    struct text answer = require_field(line, "answer");
-    if (!is(answer, "yes") && !is(answer, "no"))
-        fail("a check's answer is neither yes nor no");
-    return is(answer, "yes");
-}
-
 static void run_line(struct text line, enum operation operation)
 {
     struct question asked = read_question(line, operation);
     uint32_t due = (uint32_t)require_number(line, "refusal");
-    uint32_t same = operation == CHECK && due == LYRA2_ACCEPTED ? due_flag(line) : 0;
+    uint32_t same = operation == CHECK && due == LYRA2_ACCEPTED && require_choice(line, "answer", "no", "yes");
     require_call(line, operation, &asked, due, same);
     if (operation == RECORDED && due == LYRA2_ACCEPTED)
         require_others(line, asked);
