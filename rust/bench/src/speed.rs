@@ -127,7 +127,7 @@ fn mix(s: &mut State) {
 }
 
 /// The multiplying mixer. A product is waited for, and so the four quads are mixed side by side, step by step: half of G
-/// by half of G takes 4 % longer, and quad after quad 7 %.
+/// by half of G takes 1 to 4 % longer, by the order of the sums, and quad after quad 7 %.
 struct BlaMka;
 
 impl Mix for BlaMka {
