@@ -1,8 +1,9 @@
 -- `full_call` meets its contract. The loop's invariant: the state is the first one after k rounds. Assumes nothing.
-use mathlib.Core.Path.{_≡_, refl}
-use Prim.Native.Nat.{_≤_, _-_}
+use mathlib.Core.Path.{_≡_, refl, ap, _∙_}
+use Prim.Native.Nat.{ℕ, _≤_, _-_}
 use native.Mathlib.Omega.{arith}
 use native.Mathlib.Numerals.{add-one}
+use denote.Ref.{now}
 use Rattle.mixer.specs.Mixers.{sumOf}
 use Rattle.permutation.specs.Round.{rounds}
 use Rattle.calls.proofs.full_call.Statement.{statement}
@@ -24,4 +25,7 @@ unfolding rounds
 full-call-spec =
     tie.close
     (tie.spec Inv-loop μ-loop (λ c. (omega arith, refl)) (omega arith) (omega arith) (omega arith) loop-again
-    (λ c. let at-end : c .before .loop .k ≡ 12 = omega arith in cc))
+    (λ c.
+    let a = c .before .before .args in
+    let at-end : c .before .loop .k ≡ 12 = omega arith in
+    c .before .loop .inv .1 ∙ ap (λ (k : ℕ). rounds (sumOf (a .mixer)) k (now (a .state))) at-end))
