@@ -1,7 +1,7 @@
 #!/usr/bin/env bash
-# The loops over the columns of a row, and what they call, multiply no two numbers that the program computes, so no row number by C: where
-# rows start is found before them. Their products by a literal are listed. Looked for in the form that the compiler is given, where nothing
-# has been moved yet.
+# The loops over the columns of a row, and what they call, multiply no two numbers that the program computes but for BlaMka's two halves
+# of state words, so no row number by C: where rows start is found before them. That product and those by a literal are listed. Looked for
+# in the form that the compiler is given, where nothing has been moved yet.
 set -eu
 cd "$(dirname "$0")/.."
 
@@ -72,5 +72,6 @@ for listed in ' made::row*2 made::cell*12' ' made::row*2' ''; do
     ! tried '(var columns)' "$listed" || { echo "a product of two numbers passes: it lists$listed"; exit 1; }
 done
 
-look setup ' places::RowStart::cell_start*12' fill_row copy_row setup_row
-look wandering ' wandering::visit_row*2 places::RowStart::cell_start*12' visit_row
+halves=' mixer::doubled_product*?'
+look setup " places::RowStart::cell_start*12$halves" fill_row copy_row setup_row
+look wandering " wandering::visit_row*2 places::RowStart::cell_start*12$halves" visit_row

@@ -7,10 +7,11 @@ use mathlib.Core.List.{List, [], _∷_}
 use lib.ListN.{length, getD}
 use Rattle.profile.specs.declared.Quad.{Quad}
 use Rattle.profile.specs.Profile.{quads}
+use Rattle.permutation.specs.Round.{Inside}
 
 -- four positions of the state, each another
 pub record Spread (q : Quad) : Type 0 where
-  pub inside : (q .0 < 16) × (q .1 < 16) × (q .2 < 16) × (q .3 < 16)
+  pub inside : Inside q
   pub apart : (q .0 ≢ q .1) × (q .0 ≢ q .2) × (q .0 ≢ q .3) × (q .1 ≢ q .2) × (q .1 ≢ q .3) × (q .2 ≢ q .3)
 
 -- a property of every element of a list

@@ -1,11 +1,15 @@
 -- The round and n rounds, and their inverses.
-use Prim.Native.Nat.{ℕ, zero, suc}
+use Prim.Native.Nat.{ℕ, zero, suc, _<_}
 use mathlib.Core.List.{List, foldl, foldr}
 use lib.ListN.{getD, set}
 unfoldable pub use Rattle.mixer.specs.G.{G, unG}
 use Rattle.mixer.specs.declared.Words.{Words}
 use Rattle.profile.specs.declared.Quad.{Quad}
 use Rattle.profile.specs.Profile.{quads}
+
+-- four positions of the state
+abbrev pub Inside : Quad → Type 0
+Inside q = (q .0 < 16) × (q .1 < 16) × (q .2 < 16) × (q .3 < 16)
 
 -- the words of a state at four positions
 unfoldable pub wordsAt : Quad → List ℕ → Words

@@ -10,30 +10,45 @@ ghost use Prim.Native.Nat.{_<_};
 ghost use Rattle.mixer.specs.G.{G, halfG};
 ghost use Rattle.mixer.specs.Mixers.{blamkaSum};
 ghost use Rattle.mixer.specs.Word.{plainSum};
-ghost use Rattle.permutation.specs.Round.{applyAt, round, rounds};
+ghost use Rattle.permutation.specs.Round.{Inside, wordsAt, putWords, applyAt, round, rounds};
 
-// G on the words at four positions: they are read first and stored last.
-fn apply_g(s: &mut [u64; 16], q: Quad)
-    requires { ⌜ (q .0 < 16) × (q .1 < 16) × (q .2 < 16) × (q .3 < 16) ⌝ }
-    ensures { λ _. ⌜ now (s .exit) ≡ applyAt (G plainSum) q (now (s .entry)) ⌝ }
+fn words_at(s: &[u64; 16], q: Quad) -> Words
+    requires { ⌜ Inside q ⌝ }
+    ensures { λ r. ⌜ r ≡ wordsAt q (now (s .entry)) ⌝ }
 {
     let i = q.0;
     let j = q.1;
     let k = q.2;
     let l = q.3;
-    let w = g(
-        Mixer::Plain,
-        Words {
-            a: s[i],
-            b: s[j],
-            c: s[k],
-            d: s[l],
-        },
-    );
+    Words {
+        a: s[i],
+        b: s[j],
+        c: s[k],
+        d: s[l],
+    }
+}
+
+fn put_words(s: &mut [u64; 16], q: Quad, w: Words)
+    requires { ⌜ Inside q ⌝ }
+    ensures { λ _. ⌜ now (s .exit) ≡ putWords q w (now (s .entry)) ⌝ }
+{
+    let i = q.0;
+    let j = q.1;
+    let k = q.2;
+    let l = q.3;
     s[i] = w.a;
     s[j] = w.b;
     s[k] = w.c;
     s[l] = w.d;
+}
+
+// G on the words at four positions: they are read first and stored last.
+fn apply_g(s: &mut [u64; 16], q: Quad)
+    requires { ⌜ Inside q ⌝ }
+    ensures { λ _. ⌜ now (s .exit) ≡ applyAt (G plainSum) q (now (s .entry)) ⌝ }
+{
+    let w = g(Mixer::Plain, words_at(s, q));
+    put_words(s, q, w);
 }
 
 pub fn plain_round(s: &mut [u64; 16])
@@ -67,30 +82,13 @@ pub fn plain_rounds(s: &mut [u64; 16], n: usize)
     *s = t;
 }
 
-// Half of G with BlaMka, on the words at four positions.
+// Half of G with BlaMka.
 fn apply_half(s: &mut [u64; 16], q: Quad, m: u32, n: u32)
-    requires { ⌜ (q .0 < 16) × (q .1 < 16) × (q .2 < 16) × (q .3 < 16) × (0 < m) × (m < 64) × (0 < n) × (n < 64) ⌝ }
+    requires { ⌜ Inside q × (0 < m) × (m < 64) × (0 < n) × (n < 64) ⌝ }
     ensures { λ _. ⌜ now (s .exit) ≡ applyAt (halfG blamkaSum m n) q (now (s .entry)) ⌝ }
 {
-    let i = q.0;
-    let j = q.1;
-    let k = q.2;
-    let l = q.3;
-    let w = half_g(
-        Mixer::BlaMka,
-        Words {
-            a: s[i],
-            b: s[j],
-            c: s[k],
-            d: s[l],
-        },
-        m,
-        n,
-    );
-    s[i] = w.a;
-    s[j] = w.b;
-    s[k] = w.c;
-    s[l] = w.d;
+    let w = half_g(Mixer::BlaMka, words_at(s, q), m, n);
+    put_words(s, q, w);
 }
 
 // A round with BlaMka: the four quads of the columns side by side, half by half, and then those of the diagonals. A product takes its

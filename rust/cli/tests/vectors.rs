@@ -125,7 +125,7 @@ fn plain_derivations() {
             assert!(is_refused(&run, &case.answer, case.number));
         }
     }
-    assert_many(&cases, 300, 70);
+    assert_many(&cases, 350, 120);
 }
 
 #[test]
@@ -151,7 +151,7 @@ fn recorded_derivations() {
             assert_eq!(run.result(), hex(key) + "\n", "case {}", case.number);
         }
     }
-    assert_many(&cases, 2200, 350);
+    assert_many(&cases, 2500, 650);
 }
 
 fn assert_end_state(case: &Case, found: &EndState) {
@@ -210,7 +210,7 @@ fn checks() {
             assert!(is_refused(&run, &case.answer, case.number));
         }
     }
-    assert_many(&cases, 400, 80);
+    assert_many(&cases, 460, 140);
 }
 
 #[test]

@@ -79,7 +79,7 @@ impl Parameters {
 pub enum Mixer {
     /// a + b.
     Plain,
-    /// a + b + 2·lo(a)·lo(b), where lo is the low 32 bits. A round takes longer.
+    /// a + b, and twice the product of the low halves of both. A round takes longer.
     BlaMka,
 }
 

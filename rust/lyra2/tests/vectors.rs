@@ -146,7 +146,7 @@ fn every_line_but_the_largest_matrices_and_the_walk_program() {
         assert_eq!(outcome, Ok(Coverage::Whole), "line {line}");
     }
     assert_eq!(all - lines.len(), 77 + 4);
-    assert!(lines.len() >= 4500);
+    assert!(lines.len() >= 4900);
 }
 
 /// The crate's documentation shows the first bytes of this key.
