@@ -1,6 +1,6 @@
 // Rounds of either mixer, and the full and reduced calls made of them.
+use blamka::blamka_round;
 use mixer::Mixer;
-use permutation::blamka_round;
 use permutation::plain_round;
 use permutation::plain_rounds;
 use profile::Profile;

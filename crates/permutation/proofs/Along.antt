@@ -2,7 +2,7 @@
 use mathlib.Core.Path.{_≡_, sym, ap, ap₂, _∙_}
 use Prim.Native.Nat.{ℕ, zero, suc, _+_, _-_, _≤_, _<_}
 use native.Mathlib.Omega.{arith}
-use mathlib.Core.List.{List}
+use mathlib.Core.List.{List, foldl}
 use lib.ListN.{getD, take, drop}
 use Rattle.mixer.specs.declared.Words.{Words}
 use Rattle.mixer.specs.G.{G}
@@ -10,7 +10,10 @@ use Rattle.profile.specs.declared.Quad.{Quad}
 use Rattle.profile.specs.Profile.{quads}
 use Rattle.permutation.specs.Round.{applyAt, round}
 use Rattle.permutation.proofs.Quads.{Spread, each-at, quads-spread}
-use Rattle.permutation.proofs.SideBySide.{atAll}
+
+-- a function at every quad of a list
+abbrev pub atAll : (Words → Words) → List ℕ → List Quad → List ℕ
+atAll f s qs = foldl (λ t q. applyAt f q t) s qs
 
 -- what stands past the end of the table
 abbrev pub none : Quad

@@ -2,5 +2,4 @@
 pub mod State
 pub mod Quads
 pub mod Undo
-pub mod SideBySide
 pub mod Along

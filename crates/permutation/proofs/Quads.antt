@@ -1,4 +1,4 @@
--- The table of quads: each quad has four distinct positions of the state; and quads that share no position. Assumes nothing.
+-- The table of quads: each quad has four distinct positions of the state. Assumes nothing.
 use mathlib.Core.Logic.{_≢_}
 use Prim.Native.Nat.{ℕ, zero, suc, _<_}
 use native.Mathlib.Omega.{arith}
@@ -28,15 +28,3 @@ pub quads-spread : Each Spread quads
 unfolding quads
 quads-spread =
     (omega arith, (omega arith, (omega arith, (omega arith, (omega arith, (omega arith, (omega arith, (omega arith, tt))))))))
-
--- no position of the one is one of the other
-pub record Disjoint (p q : Quad) : Type 0 where
-  pub first : (p .0 ≢ q .0) × (p .0 ≢ q .1) × (p .0 ≢ q .2) × (p .0 ≢ q .3)
-  pub second : (p .1 ≢ q .0) × (p .1 ≢ q .1) × (p .1 ≢ q .2) × (p .1 ≢ q .3)
-  pub third : (p .2 ≢ q .0) × (p .2 ≢ q .1) × (p .2 ≢ q .2) × (p .2 ≢ q .3)
-  pub fourth : (p .3 ≢ q .0) × (p .3 ≢ q .1) × (p .3 ≢ q .2) × (p .3 ≢ q .3)
-
--- every quad of a list shares no position with a later one
-abbrev pub SideBySide : List Quad → Type 0
-SideBySide [] = Unit {0}
-SideBySide (q ∷ qs) = Spread q × Each (Disjoint q) qs × SideBySide qs

@@ -1,18 +1,15 @@
-// The permutation: rounds of G over the state, without message words, with either mixer.
+// The permutation: rounds of G over the state, without message words, with plain sums.
 use mixer::Mixer;
 use mixer::Words;
 use mixer::g;
-use mixer::half_g;
 use profile::Profile;
 use profile::Quad;
 ghost use mathlib.Core.Path.{_≡_};
-ghost use Prim.Native.Nat.{_<_};
-ghost use Rattle.mixer.specs.G.{G, halfG};
-ghost use Rattle.mixer.specs.Mixers.{blamkaSum};
+ghost use Rattle.mixer.specs.G.{G};
 ghost use Rattle.mixer.specs.Word.{plainSum};
 ghost use Rattle.permutation.specs.Round.{Inside, wordsAt, putWords, applyAt, round, rounds};
 
-fn words_at(s: &[u64; 16], q: Quad) -> Words
+pub fn words_at(s: &[u64; 16], q: Quad) -> Words
     requires { ⌜ Inside q ⌝ }
     ensures { λ r. ⌜ r ≡ wordsAt q (now (s .entry)) ⌝ }
 {
@@ -28,7 +25,7 @@ fn words_at(s: &[u64; 16], q: Quad) -> Words
     }
 }
 
-fn put_words(s: &mut [u64; 16], q: Quad, w: Words)
+pub fn put_words(s: &mut [u64; 16], q: Quad, w: Words)
     requires { ⌜ Inside q ⌝ }
     ensures { λ _. ⌜ now (s .exit) ≡ putWords q w (now (s .entry)) ⌝ }
 {
@@ -80,50 +77,4 @@ pub fn plain_rounds(s: &mut [u64; 16], n: usize)
         k += 1;
     }
     *s = t;
-}
-
-// Half of G with BlaMka.
-fn apply_half(s: &mut [u64; 16], q: Quad, m: u32, n: u32)
-    requires { ⌜ Inside q × (0 < m) × (m < 64) × (0 < n) × (n < 64) ⌝ }
-    ensures { λ _. ⌜ now (s .exit) ≡ applyAt (halfG blamkaSum m n) q (now (s .entry)) ⌝ }
-{
-    let w = half_g(Mixer::BlaMka, words_at(s, q), m, n);
-    put_words(s, q, w);
-}
-
-// A round with BlaMka: the four quads of the columns side by side, half by half, and then those of the diagonals. A product takes its
-// time, and the processor works on four at once. They share no word, so it is G on one after another all the same. The state comes by value,
-// which tells the proof its length.
-fn blamka_mixed(first: [u64; 16]) -> [u64; 16]
-    ensures { λ r. ⌜ r ≡ round blamkaSum first ⌝ }
-{
-    let quads = Profile::quads();
-    let mut t = first;
-    let mut a = 0;
-    while a < 4 {
-        apply_half(&mut t, quads[a], 32, 24);
-        a += 1;
-    }
-    let mut b = 0;
-    while b < 4 {
-        apply_half(&mut t, quads[b], 16, 63);
-        b += 1;
-    }
-    let mut c = 4;
-    while c < 8 {
-        apply_half(&mut t, quads[c], 32, 24);
-        c += 1;
-    }
-    let mut d = 4;
-    while d < 8 {
-        apply_half(&mut t, quads[d], 16, 63);
-        d += 1;
-    }
-    t
-}
-
-pub fn blamka_round(s: &mut [u64; 16])
-    ensures { λ _. ⌜ now (s .exit) ≡ round blamkaSum (now (s .entry)) ⌝ }
-{
-    *s = blamka_mixed(*s);
 }

@@ -4,20 +4,33 @@ use mathlib.Core.Path.{_≡_, refl, sym, ap, _∙_}
 use mathlib.Core.Logic.{_≢_}
 use Prim.Native.Nat.{ℕ}
 use native.Mathlib.Omega.{arith}
-use mathlib.Core.List.{List, [], _∷_, foldl}
+use mathlib.Core.List.{List, [], _∷_}
 use lib.ListN.{length, getD, set, take, drop, length-set}
 use lib.Seq.{getD-set-other, set-comm}
 use Rattle.mixer.specs.declared.Words.{Words}
 use Rattle.mixer.specs.G.{G, halfG}
 use Rattle.profile.specs.declared.Quad.{Quad}
 use Rattle.profile.specs.Profile.{quads}
 use Rattle.permutation.specs.Round.{wordsAt, putWords, applyAt, round}
-use Rattle.permutation.proofs.Quads.{Spread, Each, Disjoint, SideBySide}
+use Rattle.permutation.proofs.Quads.{Spread, Each}
 use Rattle.permutation.proofs.Undo.{wordsAt-put, put-put}
+use Rattle.permutation.proofs.Along.{atAll}
 
 -- another position than those of a quad
 abbrev Off : ℕ → Quad → Type 0
 Off k q = (k ≢ q .0) × (k ≢ q .1) × (k ≢ q .2) × (k ≢ q .3)
+
+-- no position of the one is one of the other
+record Disjoint (p q : Quad) : Type 0 where
+  first : Off (p .0) q
+  second : Off (p .1) q
+  third : Off (p .2) q
+  fourth : Off (p .3) q
+
+-- every quad of a list shares no position with a later one
+abbrev SideBySide : List Quad → Type 0
+SideBySide [] = Unit {0}
+SideBySide (q ∷ qs) = Spread q × Each (Disjoint q) qs × SideBySide qs
 
 module _ (q : Quad) (v : Words) (s : List ℕ) (k : ℕ) (off : Off k q) where
   read-past : getD (putWords q v s) k 0 ≡ getD s k 0
@@ -92,10 +105,6 @@ module _ (f g : Words → Words) where
 length-at : (f : Words → Words) (q : Quad) (s : List ℕ) → length (applyAt f q s) ≡ length s
 unfolding applyAt putWords
 length-at f q s = simp length-set
-
--- a function at every quad of a list
-abbrev pub atAll : (Words → Words) → List ℕ → List Quad → List ℕ
-atAll f s qs = foldl (λ t q. applyAt f q t) s qs
 
 length-all : (f : Words → Words) (qs : List Quad) (s : List ℕ) → length (atAll f s qs) ≡ length s
 length-all f [] s = refl

@@ -8,10 +8,10 @@ use Rattle.mixer.specs.declared.Words.{Words}
 use Rattle.mixer.specs.Mixers.{blamkaSum}
 use Rattle.mixer.specs.G.{halfG}
 use Rattle.profile.specs.Profile.{quads}
-use Rattle.permutation.proofs.SideBySide.{atAll, round-by-halves}
-use Rattle.permutation.proofs.Along.{Along, along-none, along-inside, along-again, all-columns, all-diagonals}
-use Rattle.permutation.proofs.blamka_mixed.Statement.{statement}
-use Rattle.permutation.proofs.blamka_mixed.Tie as tie
+use Rattle.blamka.proofs.SideBySide.{round-by-halves}
+use Rattle.permutation.proofs.Along.{atAll, Along, along-none, along-inside, along-again, all-columns, all-diagonals}
+use Rattle.blamka.proofs.blamka_mixed.Statement.{statement}
+use Rattle.blamka.proofs.blamka_mixed.Tie as tie
 
 abbrev f : Words → Words
 f = halfG blamkaSum 32 24

@@ -5,9 +5,9 @@ use denote.Ref.{now}
 use Rattle.mixer.specs.Mixers.{blamkaSum}
 use Rattle.mixer.specs.G.{halfG}
 use Rattle.mixer.specs.declared.Words.{Words}
 use Rattle.permutation.specs.Round.{applyAt, putWords}
-use Rattle.permutation.proofs.apply_half.Statement.{statement}
-use Rattle.permutation.proofs.apply_half.Tie as tie
+use Rattle.blamka.proofs.apply_half.Statement.{statement}
+use Rattle.blamka.proofs.apply_half.Tie as tie
 
 pub apply-half-spec : {M : Type 1} → statement M
 unfolding applyAt

@@ -1,0 +1,2 @@
+-- The laws of quads side by side.
+pub mod SideBySide
