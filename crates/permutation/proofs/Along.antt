@@ -1,4 +1,4 @@
--- Loops over the table of quads. Assumes nothing.
+-- A function at a quad, and loops over the table of quads. Assumes nothing.
 use mathlib.Core.Path.{_≡_, sym, ap, ap₂, _∙_}
 use Prim.Native.Nat.{ℕ, zero, suc, _+_, _-_, _≤_, _<_}
 use native.Mathlib.Omega.{arith}
@@ -8,8 +8,13 @@ use Rattle.mixer.specs.declared.Words.{Words}
 use Rattle.mixer.specs.G.{G}
 use Rattle.profile.specs.declared.Quad.{Quad}
 use Rattle.profile.specs.Profile.{quads}
-use Rattle.permutation.specs.Round.{applyAt, round}
+use Rattle.permutation.specs.Round.{wordsAt, putWords, applyAt, round}
 use Rattle.permutation.proofs.Quads.{Spread, each-at, quads-spread}
+
+-- a function of the words that were read at a quad, whose result is put there
+pub applied : (f : Words → Words) (q : Quad) (s : List ℕ) {v w : Words} {t : List ℕ} → v ≡ wordsAt q s → w ≡ f v → t ≡ putWords q w s → t ≡ applyAt f q s
+unfolding applyAt
+applied f q s read made put = put ∙ ap (λ (w : Words). putWords q w s) (made ∙ ap f read)
 
 -- a function at every quad of a list
 abbrev pub atAll : (Words → Words) → List ℕ → List Quad → List ℕ
