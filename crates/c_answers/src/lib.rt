@@ -4,9 +4,11 @@ use checking::Checked;
 use derivation::Costs;
 use line_form::LineLength;
 use line_form::LineValues;
+use packing::Pair;
 use recorded::Recording;
 use walk_question::WalkAnswer;
 ghost use mathlib.Core.Path.{_≡_};
+ghost use mathlib.Core.List.{[], _∷_};
 ghost use Rattle.derivation.specs.Answers.{flag as «number-of»};
 ghost use Rattle.c_answers.specs.Stored.{stored as «counts-stored», storedValues, storedLength};
 
@@ -59,4 +61,11 @@ pub fn store_length(a: LineLength, length: &mut usize) -> u32
 {
     *length = a.length;
     a.refusal
+}
+
+// Stores the two numbers of a word of the record.
+pub fn store_pair(a: Pair, numbers: &mut [u64; 2])
+    ensures { λ _. ⌜ now (numbers .exit) ≡ a .low ∷ a .high ∷ [] ⌝ }
+{
+    *numbers = [a.low as u64, a.high as u64];
 }

@@ -10,7 +10,7 @@ use Rattle.matrix.specs.Cells.{cellAt}
 use Rattle.columns.specs.Columns.{work}
 use Rattle.setup_order.specs.SetupOrder.{order}
 use Rattle.setup.specs.Setup.{setup}
-use Rattle.wandering.specs.Visits.{Walk, walk, wander, visits}
+use Rattle.wandering.specs.Visits.{Walk, walk, Visit, wander, visits}
 use Rattle.wandering.specs.Encoding.{encode}
 use Rattle.key.specs.Key.{keyBytes}
 
@@ -26,7 +26,7 @@ walkEnd S x m = wander S (visitCount S) (setupEnd S (inputState S x) m)
 unfoldable pub finalState : Settings → Walk → List ℕ
 finalState S w = absorb (S .addition .sum) fullRounds (cellAt (S .columns) (w .prev0) 0 (w .done .matrix)) (w .done .state)
 
--- ---- what a derivation gives: the key, and the state, the matrix and the used record after the last visit
+-- ---- what a derivation gives: the key, and the state, the matrix, the visits and the used record after the last visit
 
 unfoldable pub keyOf : Settings → Input → List ℕ → List ℕ
 keyOf S x m = keyBytes (S .addition .sum) (x .keyLength) (finalState S (walkEnd S x m))
@@ -37,5 +37,8 @@ endState S x m = walkEnd S x m .done .state
 unfoldable pub endMatrix : Settings → Input → List ℕ → List ℕ
 endMatrix S x m = walkEnd S x m .done .matrix
 
+abbrev pub endVisits : Settings → Input → List ℕ → List Visit
+endVisits S x m = visits S (visitCount S) (setupEnd S (inputState S x) m)
+
 unfoldable pub endRecord : Settings → Input → List ℕ → List ℕ
-endRecord S x m = encode (visits S (visitCount S) (setupEnd S (inputState S x) m))
+endRecord S x m = encode (endVisits S x m)

@@ -3,19 +3,23 @@
 // they were.
 use c_answers::store_costs;
 use c_answers::store_length;
+use c_answers::store_pair;
 use c_answers::store_row;
 use c_answers::store_same;
 use c_answers::store_state;
 use c_answers::store_values;
 use mixer::Mixer;
+use packing::Pair;
 use profile::Profile;
 use settings::Lengths;
 use settings::Parameters;
 use settings::StoredParameters;
 ghost use mathlib.Core.Path.{_≡_};
 ghost use mathlib.Core.Bool.{false};
+ghost use mathlib.Core.List.{[], _∷_};
 ghost use lib.ListN.{length};
 ghost use Rattle.profile.specs.Profile.{usualRotation};
+ghost use Rattle.packing.specs.Packing.{lowOf, highOf};
 ghost use Rattle.input.specs.Input.{input};
 ghost use Rattle.refusals.specs.Checks.{first, costChecks};
 ghost use Rattle.derivation.specs.Answers.{costAnswer};
@@ -153,6 +157,14 @@ pub extern "C" fn lyra2_derive_recorded(
     let a = recorded::derive_recorded(password, salt, p, key, matrix, record);
     store_state(a, state);
     store_costs(a.costs, counts)
+}
+
+// The two numbers of a word of the record, which is any word.
+#[no_mangle]
+pub extern "C" fn lyra2_record_pair(word: u64, numbers: &mut [u64; 2])
+    ensures { λ _. ⌜ now (numbers .exit) ≡ lowOf word ∷ highOf word ∷ [] ⌝ }
+{
+    store_pair(Pair::of(word), numbers);
 }
 
 // Reads a login line: salt and key are put at the start of their outputs.

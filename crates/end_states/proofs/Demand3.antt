@@ -14,6 +14,7 @@ use Rattle.settings.specs.Settings.{settings}
 use Rattle.settings.specs.Sizes.{matrixWords, recordWords, visitCount}
 use Rattle.settings.specs.declared.Parameters.{Parameters}
 use Rattle.input.specs.Input.{lengths, inputState}
+use Rattle.wandering.specs.Wandered.{Packable}
 use Rattle.wandering.proofs.Recording.{length-visits}
 use Rattle.refusals.specs.Checks.{Accepted, costChecks, plainChecks, recordedChecks}
 use Rattle.refusals.proofs.Accepted.{accepted}
@@ -33,6 +34,11 @@ module _ {p : Parameters} (x : Trial p) where
   unfolding recordedChecks plainChecks costChecks
   bounds-of = accepted _ (omega arith) none
 
+  -- R is at most 16,384 and C at most 256
+  pub packable-of : Packable (settings p)
+  unfolding recordedChecks plainChecks costChecks
+  packable-of = omega (arith, bounds-of)
+
   fits-of : Fits (settings p) (inputOf x) (x .matrix)
   unfolding recordedChecks plainChecks costChecks
   fits-of =
@@ -48,7 +54,7 @@ module _ {p : Parameters} (x : Trial p) where
   unfolding endRecord
   length-of = length-visits (settings p) (setupEnd (settings p) (inputState (settings p) (inputOf x)) (x .matrix)) (visitCount (settings p))
 
-  end-of : _≡_ {A = End} (leftBy x) (endOf (settings p) (inputOf x) (x .matrix))
+  pub end-of : _≡_ {A = End} (leftBy x) (endOf (settings p) (inputOf x) (x .matrix))
   unfolding endOf recordedChecks plainChecks costChecks
   end-of =
       let l = endRecord (settings p) (inputOf x) (x .matrix) in
@@ -68,5 +74,5 @@ pub end-states-settle-inputs : (p : Parameters) (b : ℕ) (x y : Trial p) → At
 unfolding recordedChecks plainChecks costChecks
 end-states-settle-inputs p b x y h =
     subst₂ (λ (e f : End). EndAlike e f ↔ StartAlike (inputOf x) (inputOf y)) (sym (end-of x)) (sym (end-of y))
-    (end-states-tell-inputs (settings p) (undoes (p .mixer)) (omega (arith, bounds-of x)) b (inputOf x) (inputOf y) (x .matrix) (y .matrix)
+    (end-states-tell-inputs (settings p) (undoes (p .mixer)) (omega (arith, bounds-of x)) (packable-of x) b (inputOf x) (inputOf y) (x .matrix) (y .matrix)
     (fits-of x) (fits-of y) h)

@@ -1,7 +1,7 @@
 -- The inputs that end alike: of two calls whose padded inputs have equally many blocks and differ in one block at most, the end
 -- states, the used matrices and the used records are equal exactly where password, salt and key length are. It holds for every
 -- addition of G that can be undone, every number of rounds and every rotation, without visits too, and whatever the two matrices
--- held. Assumes nothing.
+-- held, where rows and columns have numbers of 16 bits. Assumes nothing.
 use mathlib.Core.Path.{_≡_, sym, ap, _∙_}
 use mathlib.Core.Logic.{_↔_}
 use Prim.Native.Nat.{ℕ, _*_, _^_, _≤_, _<_}
@@ -16,8 +16,9 @@ use Rattle.settings.specs.Sizes.{matrixWords, visitCount}
 use Rattle.matrix.proofs.Apart.{cells-words, words-cells}
 use Rattle.input.specs.Input.{Input, input, lengths, inputBlocks, paddedInput, inputState}
 use Rattle.input.proofs.InputLaws.{input-state, input-state-inj, length-padded-input}
-use Rattle.wandering.specs.Encoding.{encode}
-use Rattle.wandering.proofs.EncodingLaws.{encode-inj, visits-of-columns}
+use Rattle.wandering.specs.Encoding.{encode, decode}
+use Rattle.wandering.specs.Wandered.{Packable}
+use Rattle.wandering.proofs.EncodingLaws.{decode-visits}
 use Rattle.derivation.specs.Derivation.{setupEnd, walkEnd, endState, endMatrix, endRecord}
 use Rattle.end_states.specs.EndStates.{endOf, EndAlike, StartAlike, AtMostOneDiffers, blocksOf}
 use Rattle.end_states.proofs.Walks.{walk-forth, walk-back}
@@ -46,11 +47,11 @@ module _ (S : Settings) (u : Undoes (S .addition)) (least : 3 ≤ S .rows) (x y 
       let a = walk-forth S u least _ m _ l hs ht (fx .room) (fy .room) (λ j. inputState S (input (i .passwords j) (i .salts j) (i .key-lengths j))) in
       record { states = a .0 .state; matrices = cells-words (S .rows * S .columns) _ _ (a .0 .cells); records = ap encode (a .1) }
 
-  end-start : (b : ℕ) → AtMostOneDiffers S b x y → EndAlike (endOf S x m) (endOf S y l) → StartAlike x y
+  end-start : Packable S → (b : ℕ) → AtMostOneDiffers S b x y → EndAlike (endOf S x m) (endOf S y l) → StartAlike x y
   unfolding endOf endState endMatrix endRecord walkEnd
-  end-start b apart ends =
-      let visited = visits-of-columns S (visitCount S) in
-      let told = encode-inj (S .columns) _ _ (visited (setupEnd S (inputState S x) m)) (visited (setupEnd S (inputState S y) l)) (ends .records) in
+  end-start packable b apart ends =
+      let visited = decode-visits S packable (visitCount S) in
+      let told = sym (visited (setupEnd S (inputState S x) m)) ∙ ap (decode (S .columns) (visitCount S)) (ends .records) ∙ visited (setupEnd S (inputState S y) l) in
       let e =
       walk-back S u least _ m _ l hs ht (fx .room) (fy .room)
       (record { state = ends .states; cells = words-cells (S .rows * S .columns) _ _ (ends .matrices) }, told) in
@@ -60,7 +61,7 @@ module _ (S : Settings) (u : Undoes (S .addition)) (least : 3 ≤ S .rows) (x y 
       record { passwords = i .0; salts = i .1; key-lengths = i .2 }
 
 -- the theorem
-pub end-states-tell-inputs : (S : Settings) → Undoes (S .addition) → 3 ≤ S .rows → (b : ℕ) (x y : Input) (m l : List ℕ) → Fits S x m → Fits S y l
+pub end-states-tell-inputs : (S : Settings) → Undoes (S .addition) → 3 ≤ S .rows → Packable S → (b : ℕ) (x y : Input) (m l : List ℕ) → Fits S x m → Fits S y l
     → AtMostOneDiffers S b x y → EndAlike (endOf S x m) (endOf S y l) ↔ StartAlike x y
-end-states-tell-inputs S u least b x y m l fx fy apart =
-    (end-start S u least x y m l fx fy b apart, start-end S u least x y m l fx fy)
+end-states-tell-inputs S u least packable b x y m l fx fy apart =
+    (end-start S u least x y m l fx fy packable b apart, start-end S u least x y m l fx fy)

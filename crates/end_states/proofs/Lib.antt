@@ -2,4 +2,5 @@
 pub mod Walks
 pub mod EndStates
 pub mod Demand3
+pub mod SameRecords
 pub mod Witness

@@ -36,7 +36,7 @@ oneByte b = input (b ∷ []) (replicate 8 0) 1
 
 -- buffers that just fit are enough
 abbrev Taken : ℕ → ℕ → ℕ → Mixer → ℕ → Type 0
-Taken T ρ ω v b = recordedNumber (least T ρ ω v) (oneByte b) (replicate 36 0) (replicate (12 * T) 0) ≡ 0
+Taken T ρ ω v b = recordedNumber (least T ρ ω v) (oneByte b) (replicate 36 0) (replicate (6 * T) 0) ≡ 0
 
 module _ (T ρ ω : ℕ) (v : Mixer) (b : ℕ) (h : b < 256) (taken : Taken T ρ ω v b) where
   pub none-refuses : costs (lengths (oneByte b)) (least T ρ ω v) .refusal ≡ 0
@@ -50,10 +50,10 @@ module _ (T ρ ω : ℕ) (v : Mixer) (b : ℕ) (h : b < 256) (taken : Taken T ρ
         salt = replicate 8 0;
         key = replicate 1 0;
         matrix = replicate 36 0;
-        visited = replicate (12 * T) 0;
+        visited = replicate (6 * T) 0;
         key′ = keyOf (settings (least T ρ ω v)) (oneByte b) (replicate 36 0);
         matrix′ = endMatrix (settings (least T ρ ω v)) (oneByte b) (replicate 36 0);
-        visited′ = putInto (replicate (12 * T) 0) (endRecord (settings (least T ρ ω v)) (oneByte b) (replicate 36 0));
+        visited′ = putInto (replicate (6 * T) 0) (endRecord (settings (least T ρ ω v)) (oneByte b) (replicate 36 0));
         costs = costs (lengths (oneByte b)) (least T ρ ω v);
         state = endState (settings (least T ρ ω v)) (oneByte b) (replicate 36 0);
         meets =
@@ -82,7 +82,7 @@ module _ (T ρ ω : ℕ) (v : Mixer) (b c : ℕ) (h : b < 256) (k : c < 256) (ta
   unfolding trial
   passwords-tell-bytes e = ap (λ (l : List ℕ). getD l 0 0) e
 
--- ---- T = 1, with records of 12 words, and T = 0, with records of none; with the usual choice, and with the most of ρ and ω; with either
+-- ---- T = 1, with records of 6 words, and T = 0, with records of none; with the usual choice, and with the most of ρ and ω; with either
 -- mixer
 
 module _ (v : Mixer) (b : ℕ) where

@@ -154,6 +154,6 @@ cells-most R C hR hC = le-trans (mul-le-mul hR hC) (omega arith)
 pub visits-most : (R T : ℕ) → R ≤ 16384 → T ≤ 255 → R * T ≤ 4177920
 visits-most R T hR hT = le-trans (mul-le-mul hR hT) (omega arith)
 
-pub record-most : (R T C : ℕ) → R ≤ 16384 → T ≤ 255 → C ≤ 256 → R * T * (2 + 2 * C) ≤ 2147450880
+pub record-most : (R T C : ℕ) → R ≤ 16384 → T ≤ 255 → C ≤ 256 → R * T * (1 + C) ≤ 1073725440
 record-most R T C hR hT hC =
-    let visit : 2 + 2 * C ≤ 514 = omega arith in le-trans (mul-le-mul (visits-most R T hR hT) visit) (omega arith)
+    let visit : 1 + C ≤ 257 = omega arith in le-trans (mul-le-mul (visits-most R T hR hT) visit) (omega arith)

@@ -28,10 +28,10 @@ pub fn plain_refusal(l: Lengths, p: Parameters, matrix: usize) -> u32
 
 // The words that the record of n visits takes.
 fn record_words(n: usize, columns: usize) -> usize
-    requires { ⌜ (columns ≤ 256) × (n * (2 + 2 * columns) < 2 ^ 64) ⌝ }
-    ensures { λ r. ⌜ r ≡ n * (2 + 2 * columns) ⌝ }
+    requires { ⌜ (columns ≤ 256) × (n * (1 + columns) < 2 ^ 64) ⌝ }
+    ensures { λ r. ⌜ r ≡ n * (1 + columns) ⌝ }
 {
-    let visit = 2 + 2 * columns;
+    let visit = 1 + columns;
     n * visit
 }
 

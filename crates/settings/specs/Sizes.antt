@@ -7,12 +7,12 @@ use Rattle.settings.specs.Settings.{Settings}
 abbrev pub matrixWords : Settings → ℕ
 matrixWords S = cellWords * (S .rows * S .columns)
 
--- the visits, the words of one in the record, and the used record
+-- the visits, the words of one in the record, for its rows and for each column (request 108), and the used record
 abbrev pub visitCount : Settings → ℕ
 visitCount S = S .rows * S .time
 
 abbrev pub visitWords : Settings → ℕ
-visitWords S = 2 + 2 * S .columns
+visitWords S = 1 + S .columns
 
 abbrev pub recordWords : Settings → ℕ
 recordWords S = visitCount S * visitWords S

@@ -1,69 +1,98 @@
--- The visits are known by the used record, since every visit has as many words. Assumes nothing.
-use mathlib.Core.Path.{_≡_, refl, sym, ap, _∙_}
-use Prim.Native.Nat.{ℕ, zero, suc, _+_, _*_}
-use native.Mathlib.Nat.{suc-inj}
+-- The encoding and the decoding undo each other: words whatever they are, and visits whose first row and first columns have 16 bits, as those
+-- of every walk have. So the used record tells the visits. Assumes nothing.
+use mathlib.Core.Path.{_≡_, refl, sym, ap, ap₂, _∙_}
+use Prim.Native.Nat.{ℕ, zero, suc, _*_, _%_, _<_, _≤_}
+use native.Mathlib.Nat.{mod-lt, suc-mul}
 use native.Mathlib.Omega.{arith}
 use mathlib.Core.List.{List, [], _∷_, _++_}
-use lib.ListN.{length, length-append}
-use Rattle.lists.proofs.Parts.{append-inj}
+use lib.ListN.{length, take, drop, length-append, length-drop, take-append-drop}
+use lib.Seq.{take-at, drop-at, length-take-le}
+use Rattle.packing.proofs.PackingLaws.{low-packed, high-packed, packed-numbers}
 use Rattle.settings.specs.Settings.{Settings}
 use Rattle.columns.specs.Columns.{Work, picks}
 use Rattle.columns.specs.declared.Rows.{Rows}
 use Rattle.columns.specs.declared.Picks.{Picks}
-use Rattle.wandering.specs.Visits.{Walk, Visit, wander, columnPicks, visitColumns, visitData, visits}
-use Rattle.wandering.specs.Encoding.{encodePicks, encodeVisit, encode}
+use Rattle.wandering.specs.Visits.{Walk, Visit, wander, columnPicks, visitColumns, pickedRows, visitData, visits}
+use Rattle.wandering.specs.Encoding.{encodePicks, encodeVisit, encode, decodePicks, decodeVisit, decode}
+use Rattle.wandering.specs.Wandered.{Packable}
 
-pub length-picks : (ps : List Picks) → length (encodePicks ps) ≡ 2 * length ps
+pub length-picks : (ps : List Picks) → length (encodePicks ps) ≡ length ps
 unfolding encodePicks
 length-picks [] = refl
 length-picks (p ∷ ps) = omega (arith, length-picks ps)
 
-picks-inj : (ps qs : List Picks) → length ps ≡ length qs → encodePicks ps ≡ encodePicks qs → ps ≡ qs
-unfolding encodePicks
-picks-inj [] [] l e = refl
-picks-inj [] (q ∷ qs) l e = absurd (omega arith)
-picks-inj (p ∷ ps) [] l e = absurd (omega arith)
-picks-inj (p ∷ ps) (q ∷ qs) l e =
-    let a : p .col0 .0 ≡ q .col0 .0 = cc in
-    let b : p .col1 .0 ≡ q .col1 .0 = cc in
-    let rest : encodePicks ps ≡ encodePicks qs = cc in
-    let all = picks-inj ps qs (suc-inj l) rest in
-    λ i. record { col0 = record { 0 = a i }; col1 = record { 0 = b i } } ∷ all i
-
-visit-inj : (v w : Visit) → length (v .columns) ≡ length (w .columns) → encodeVisit v ≡ encodeVisit w → v ≡ w
-unfolding encodeVisit
-visit-inj v w l e =
-    let a : v .row0 ≡ w .row0 = cc in
-    let b : v .row1 ≡ w .row1 = cc in
-    let rest : encodePicks (v .columns) ≡ encodePicks (w .columns) = cc in
-    let c = picks-inj (v .columns) (w .columns) l rest in
-    λ i. record { row0 = a i; row1 = b i; columns = c i }
-
-length-visit : (v : Visit) → length (encodeVisit v) ≡ 2 + 2 * length (v .columns)
+length-visit : (v : Visit) → length (encodeVisit v) ≡ suc (length (v .columns))
 unfolding encodeVisit
 length-visit v = omega (arith, length-picks (v .columns))
 
--- visits of C columns each
-abbrev pub OfColumns : ℕ → List Visit → Type 0
-OfColumns C [] = Unit {0}
-OfColumns C (v ∷ vs) = (length (v .columns) ≡ C) × OfColumns C vs
+-- ---- visits to words and back
 
-pub encode-inj : (C : ℕ) (vs ws : List Visit) → OfColumns C vs → OfColumns C ws → encode vs ≡ encode ws → vs ≡ ws
-unfolding encode
-encode-inj C [] [] hv hw e = refl
-encode-inj C [] (w ∷ ws) hv hw e =
-    absurd (omega (arith, ap length e, length-append (encodeVisit w) (encode ws), length-visit w))
-encode-inj C (v ∷ vs) [] hv hw e =
-    absurd (omega (arith, ap length e, length-append (encodeVisit v) (encode vs), length-visit v))
-encode-inj C (v ∷ vs) (w ∷ ws) hv hw e =
-    let l : length (v .columns) ≡ length (w .columns) = hv .0 ∙ sym (hw .0) in
-    let parts =
-    append-inj (encodeVisit v) (encodeVisit w) (encode vs) (encode ws) (omega (arith, length-visit v, length-visit w)) e in
-    let first = visit-inj v w l (parts .0) in
-    let rest = encode-inj C vs ws (hv .1) (hw .1) (parts .1) in
-    λ i. first i ∷ rest i
+-- the first columns have 16 bits
+abbrev pub LowPicks : List Picks → Type 0
+LowPicks [] = Unit {0}
+LowPicks (p ∷ ps) = (p .col0 .0 < 65536) × LowPicks ps
 
--- ---- the visits of a walk are such
+-- a visit of C columns, whose first row has 16 bits too
+pub record LowVisit (C : ℕ) (v : Visit) : Type 0 where
+  pub as-many : length (v .columns) ≡ C
+  pub row0-lt : v .row0 < 65536
+  pub picks-lt : LowPicks (v .columns)
+
+abbrev pub LowVisits : ℕ → List Visit → Type 0
+LowVisits C [] = Unit {0}
+LowVisits C (v ∷ vs) = LowVisit C v × LowVisits C vs
+
+decode-picks : (ps : List Picks) → LowPicks ps → decodePicks (encodePicks ps) ≡ ps
+unfolding encodePicks decodePicks
+decode-picks [] h = refl
+decode-picks (p ∷ ps) h =
+    let a = low-packed (p .col0 .0) (p .col1 .0) (h .0) in
+    let b = high-packed (p .col0 .0) (p .col1 .0) (h .0) in
+    let rest = decode-picks ps (h .1) in
+    λ i. record { col0 = record { 0 = a i }; col1 = record { 0 = b i } } ∷ rest i
+
+decode-visit : {C : ℕ} (v : Visit) → LowVisit C v → decodeVisit (encodeVisit v) ≡ v
+unfolding encodeVisit decodeVisit
+decode-visit v h =
+    let a = low-packed (v .row0) (v .row1) (h .row0-lt) in
+    let b = high-packed (v .row0) (v .row1) (h .row0-lt) in
+    let rest = decode-picks (v .columns) (h .picks-lt) in
+    λ i. record { row0 = a i; row1 = b i; columns = rest i }
+
+pub decode-encode : (C : ℕ) (vs : List Visit) → LowVisits C vs → decode C (length vs) (encode vs) ≡ vs
+unfolding encode decode
+decode-encode C [] h = refl
+decode-encode C (v ∷ vs) h =
+    let l : length (encodeVisit v) ≡ suc C = length-visit v ∙ ap suc (h .0 .as-many) in
+    ap₂ (λ (u : Visit) (us : List Visit). u ∷ us)
+    (ap decodeVisit (take-at (encodeVisit v) (encode vs) (suc C) l) ∙ decode-visit v (h .0))
+    (ap (decode C (length vs)) (drop-at (encodeVisit v) (encode vs) (suc C) l) ∙ decode-encode C vs (h .1))
+
+-- ---- words to visits and back, whatever the words are
+
+encode-decoded-picks : (words : List ℕ) → encodePicks (decodePicks words) ≡ words
+unfolding encodePicks decodePicks
+encode-decoded-picks [] = refl
+encode-decoded-picks (word ∷ words) = ap₂ (λ (a : ℕ) (l : List ℕ). a ∷ l) (packed-numbers word) (encode-decoded-picks words)
+
+encode-decoded-visit : (words : List ℕ) → 0 < length words → encodeVisit (decodeVisit words) ≡ words
+unfolding encodeVisit decodeVisit
+encode-decoded-visit [] h = absurd (omega arith)
+encode-decoded-visit (word ∷ words) h = ap₂ (λ (a : ℕ) (l : List ℕ). a ∷ l) (packed-numbers word) (encode-decoded-picks words)
+
+pub encode-decode : (C n : ℕ) (words : List ℕ) → length words ≡ n * suc C → encode (decode C n words) ≡ words
+unfolding encode decode
+encode-decode C zero [] l = refl
+encode-decode C zero (word ∷ words) l = absurd (omega arith)
+encode-decode C (suc n) words l =
+    let fits : suc C ≤ length words = omega (arith, suc-mul n (suc C)) in
+    let front = length-take-le (suc C) words fits in
+    ap₂ (λ (a b : List ℕ). a ++ b)
+    (encode-decoded-visit (take (suc C) words) (omega (arith, front)))
+    (encode-decode C n (drop (suc C) words) (omega (arith, length-drop (suc C) words, suc-mul n (suc C))))
+    ∙ take-append-drop (suc C) words
+
+-- ---- the visits of a walk are such: their rows are below R and their columns below C, of which neither passes 65,536
 
 pub as-many-picks : (S : Settings) (r : Rows) (n : ℕ) (w : Work) → length (columnPicks S r n w) ≡ n
 unfolding columnPicks
@@ -71,12 +100,45 @@ as-many-picks S r zero w = refl
 as-many-picks S r (suc n) w =
     omega (arith, length-append (columnPicks S r n w) (picks S (visitColumns S r n w .state) ∷ []), as-many-picks S r n w)
 
-one-more : (C : ℕ) (vs : List Visit) (v : Visit) → OfColumns C vs → length (v .columns) ≡ C → OfColumns C (vs ++ (v ∷ []))
-one-more C [] v h l = (l, tt)
-one-more C (u ∷ vs) v h l = (h .0, one-more C vs v (h .1) l)
+as-many-visits : (S : Settings) (n : ℕ) (w : Walk) → length (visits S n w) ≡ n
+unfolding visits
+as-many-visits S zero w = refl
+as-many-visits S (suc n) w = omega (arith, length-append (visits S n w) (visitData S (wander S n w) ∷ []), as-many-visits S n w)
 
-pub visits-of-columns : (S : Settings) (n : ℕ) (w : Walk) → OfColumns (S .columns) (visits S n w)
-unfolding visits visitData
-visits-of-columns S zero w = tt
-visits-of-columns S (suc n) w =
-    one-more (S .columns) (visits S n w) (visitData S (wander S n w)) (visits-of-columns S n w) (as-many-picks S _ (S .columns) (wander S n w .done))
+one-pick-more : (ps : List Picks) (p : Picks) → LowPicks ps → p .col0 .0 < 65536 → LowPicks (ps ++ (p ∷ []))
+one-pick-more [] p h l = (l, tt)
+one-pick-more (q ∷ ps) p h l = (h .0, one-pick-more ps p (h .1) l)
+
+one-visit-more : (C : ℕ) (vs : List Visit) (v : Visit) → LowVisits C vs → LowVisit C v → LowVisits C (vs ++ (v ∷ []))
+one-visit-more C [] v h l = (l, tt)
+one-visit-more C (u ∷ vs) v h l = (h .0, one-visit-more C vs v (h .1) l)
+
+below-16-bits : (a n : ℕ) → 0 < n → n ≤ 65536 → a % n < 65536
+below-16-bits a n pos most = omega (arith, mod-lt a pos)
+
+module _ (S : Settings) (h : Packable S) where
+  low-picks : (r : Rows) (n : ℕ) (w : Work) → LowPicks (columnPicks S r n w)
+  unfolding columnPicks picks
+  low-picks r zero w = tt
+  low-picks r (suc n) w =
+      one-pick-more (columnPicks S r n w) _ (low-picks r n w) (below-16-bits _ (S .columns) (h .columns-pos) (h .columns-most))
+
+  low-visit : (w : Walk) → LowVisit (S .columns) (visitData S w)
+  unfolding visitData pickedRows
+  low-visit w =
+      record {
+        as-many = as-many-picks S (pickedRows S w) (S .columns) (w .done);
+        row0-lt = below-16-bits _ (S .rows) (h .rows-pos) (h .rows-most);
+        picks-lt = low-picks (pickedRows S w) (S .columns) (w .done);
+      }
+
+  pub low-visits : (n : ℕ) (w : Walk) → LowVisits (S .columns) (visits S n w)
+  unfolding visits
+  low-visits zero w = tt
+  low-visits (suc n) w = one-visit-more (S .columns) (visits S n w) (visitData S (wander S n w)) (low-visits n w) (low-visit (wander S n w))
+
+  -- what a walk's record tells is its visits
+  pub decode-visits : (n : ℕ) (w : Walk) → decode (S .columns) n (encode (visits S n w)) ≡ visits S n w
+  decode-visits n w =
+      ap (λ (k : ℕ). decode (S .columns) k (encode (visits S n w))) (sym (as-many-visits S n w))
+      ∙ decode-encode (S .columns) (visits S n w) (low-visits n w)

@@ -1,4 +1,4 @@
--- How the record grows: two words a column, visitWords a visit. Assumes nothing.
+-- How the record grows: a word a column, visitWords a visit. Assumes nothing.
 use mathlib.Core.Path.{_≡_, refl, sym, ap, _∙_}
 use Prim.Native.Nat.{ℕ, zero, suc, _+_, _*_, _<_}
 use native.Mathlib.Omega.{arith}
@@ -9,6 +9,7 @@ use lib.ListN.{length, set, length-append}
 use Rattle.lists.specs.Zip.{zipAt}
 use Rattle.lists.proofs.ZipLaws.{zip-none, zipAt-none, put-cons, put-append}
 use Rattle.lists.proofs.LoopLaws.{loop-none, loop-more}
+use Rattle.packing.specs.Packing.{packed}
 use Rattle.settings.specs.Settings.{Settings}
 use Rattle.settings.specs.Sizes.{visitWords}
 use Rattle.columns.specs.declared.Rows.{Rows}
@@ -20,31 +21,30 @@ use Rattle.wandering.specs.Encoding.{encodePicks, encodeVisit, encode}
 use Rattle.wandering.specs.Wandered.{OneVisit, Wandered}
 use Rattle.wandering.proofs.EncodingLaws.{length-picks, as-many-picks}
 
-pub encodePicks-snoc : (ps : List Picks) (p : Picks) → encodePicks (ps ++ (p ∷ [])) ≡ encodePicks ps ++ (p .col0 .0 ∷ p .col1 .0 ∷ [])
+pub encodePicks-snoc : (ps : List Picks) (p : Picks) → encodePicks (ps ++ (p ∷ [])) ≡ encodePicks ps ++ (packed (p .col0 .0) (p .col1 .0) ∷ [])
 unfolding encodePicks
 encodePicks-snoc [] p = refl
-encodePicks-snoc (q ∷ ps) p = ap (λ (l : List ℕ). q .col0 .0 ∷ q .col1 .0 ∷ l) (encodePicks-snoc ps p)
+encodePicks-snoc (q ∷ ps) p = ap (λ (l : List ℕ). packed (q .col0 .0) (q .col1 .0) ∷ l) (encodePicks-snoc ps p)
 
 pub encode-snoc : (vs : List Visit) (v : Visit) → encode (vs ++ (v ∷ [])) ≡ encode vs ++ encodeVisit v
 unfolding encode
 encode-snoc [] v = append-nil (encodeVisit v)
 encode-snoc (u ∷ vs) v = ap (λ (l : List ℕ). encodeVisit u ++ l) (encode-snoc vs v) ∙ sym (append-assoc (encodeVisit u) (encode vs) (encodeVisit v))
 
--- two words put after others
-pub put-pair : (a : ℕ) (xs ys : List ℕ) (u v : ℕ)
-    → set (set (zipAt (λ x y. y) a xs ys) (a + length ys) u) (a + length ys + 1) v ≡ zipAt (λ x y. y) a xs (ys ++ (u ∷ v ∷ []))
-put-pair a xs ys u v = rw (put-append, put-cons, put-cons, zipAt-none)
+-- a word put after others
+put-next : (a n : ℕ) (xs ys : List ℕ) (u : ℕ) → n ≡ length ys → set (zipAt (λ x y. y) a xs ys) (a + n) u ≡ zipAt (λ x y. y) a xs (ys ++ (u ∷ []))
+put-next a n xs ys u e = rw (e, put-append, put-cons, zipAt-none)
 
 -- ---- the columns of a visit
 module _ (S : Settings) (r : Rows) (w : Work) where
-  length-columns : (n : ℕ) → length (encodePicks (columnPicks S r n w)) ≡ 2 * n
+  length-columns : (n : ℕ) → length (encodePicks (columnPicks S r n w)) ≡ n
   length-columns n = omega (arith, length-picks (columnPicks S r n w), as-many-picks S r n w)
 
   pub column-noted : (n a : ℕ) (xs l : List ℕ) (p : Picks) → l ≡ zipAt (λ x y. y) a xs (encodePicks (columnPicks S r n w))
       → p ≡ picks S (visitColumns S r n w .state)
-      → set (set l (a + 2 * n) (p .col0 .0)) (a + 2 * n + 1) (p .col1 .0) ≡ zipAt (λ x y. y) a xs (encodePicks (columnPicks S r (n + 1) w))
+      → set l (a + n) (packed (p .col0 .0) (p .col1 .0)) ≡ zipAt (λ x y. y) a xs (encodePicks (columnPicks S r (n + 1) w))
   unfolding columnPicks
-  column-noted n a xs l p inv e = rw (add-one n, inv, e, encodePicks-snoc, ← length-columns n) (put-pair _ _ _ _ _)
+  column-noted n a xs l p inv e = rw (add-one n, inv, e, encodePicks-snoc) (put-next a n xs _ _ (sym (length-columns n)))
 
 -- ---- a whole visit
 module _ (S : Settings) (w : Walk) (r : Rows) (e : r ≡ pickedRows S w) where
@@ -53,11 +53,10 @@ module _ (S : Settings) (w : Walk) (r : Rows) (e : r ≡ pickedRows S w) where
   visit-done d f = rw (f, e)
 
   pub visit-noted : (a : ℕ) (xs l : List ℕ)
-      → l ≡ zipAt (λ x y. y) (a + 2) (set (set xs a (r .row0 .0)) (a + 1) (r .row1 .0)) (encodePicks (columnPicks S r (S .columns) (w .done)))
+      → l ≡ zipAt (λ x y. y) (a + 1) (set xs a (packed (r .row0 .0) (r .row1 .0))) (encodePicks (columnPicks S r (S .columns) (w .done)))
       → l ≡ zipAt (λ x y. y) a xs (encodeVisit (visitData S w))
   unfolding visitData encodeVisit
-  visit-noted a xs l f =
-      let next : a + 1 + 1 ≡ a + 2 = omega arith in rw (rw e at f, put-cons, put-cons, next)
+  visit-noted a xs l f = rw (rw e at f, put-cons)
 
 -- ---- visits one after another
 module _ (S : Settings) (w : Walk) where

@@ -8,9 +8,16 @@ use Rattle.settings.specs.Sizes.{matrixWords}
 use Rattle.wandering.specs.Visits.{Walk, visit, wander, visitData, visits}
 use Rattle.wandering.specs.Encoding.{encodeVisit, encode}
 
--- there are columns, the previous rows are rows, and a matrix of so many words has room for all of them
-pub record Ready (S : Settings) (prev0 prev1 words : ℕ) : Type 0 where
+-- there are rows and columns, and their numbers have 16 bits, so that two of them go into a word
+pub record Packable (S : Settings) : Type 0 where
+  pub rows-pos : 0 < S .rows
+  pub rows-most : S .rows ≤ 65536
   pub columns-pos : 0 < S .columns
+  pub columns-most : S .columns ≤ 65536
+
+-- the previous rows are rows, and a matrix of so many words has room for all of them
+pub record Ready (S : Settings) (prev0 prev1 words : ℕ) : Type 0 where
+  pub packable : Packable S
   pub prev0-lt : prev0 < S .rows
   pub prev1-lt : prev1 < S .rows
   pub room : matrixWords S ≤ words

@@ -1,6 +1,7 @@
 // Wandering: the visits, and a record of what they picked where the caller lends one.
 use columns::Rows;
 use columns::Starts;
+use packing::note;
 use picks::pick_columns;
 use picks::picked;
 use picks::place_after;
@@ -11,7 +12,7 @@ use visit_columns::visit_column;
 ghost use mathlib.Core.Path.{_≡_};
 ghost use Prim.Native.Nat.{_+_, _*_, _<_, _^_};
 ghost use mathlib.Core.List.{[]};
-ghost use lib.ListN.{length, set};
+ghost use lib.ListN.{length};
 ghost use Rattle.lists.specs.Zip.{zipAt};
 ghost use Rattle.settings.specs.Settings.{settings};
 ghost use Rattle.settings.specs.Sizes.{visitWords};
@@ -19,27 +20,7 @@ ghost use Rattle.columns.specs.Bounds.{startsOf, Within};
 ghost use Rattle.columns.specs.Columns.{work};
 ghost use Rattle.wandering.specs.Visits.{walk, pickedRows, visitColumns, columnPicks};
 ghost use Rattle.wandering.specs.Encoding.{encodePicks};
-ghost use Rattle.wandering.specs.Wandered.{Ready, OneVisit, Wandered};
-
-// Stores a number in the record, where the record reaches that far.
-fn note(record: &mut [u64], at: usize, value: usize)
-    ensures { λ _. ⌜ now («record» .exit) ≡ set (now («record» .entry)) at value ⌝ }
-{
-    if at < record.len() {
-        record[at] = value as u64;
-    }
-}
-
-// Stores two numbers, one after the other. Where the first has no room the second has none either.
-fn note_pair(record: &mut [u64], at: usize, first: usize, second: usize)
-    requires { ⌜ at + 1 < 2 ^ 64 ⌝ }
-    ensures { λ _. ⌜ now («record» .exit) ≡ set (set (now («record» .entry)) at first) (at + 1) second ⌝ }
-{
-    if at < record.len() {
-        record[at] = first as u64;
-        note(record, at + 1, second);
-    }
-}
+ghost use Rattle.wandering.specs.Wandered.{Packable, Ready, OneVisit, Wandered};
 
 // A visit's columns; the record gets their picks from place `at` on. The answer counts the reduced calls.
 fn visit_row(
@@ -50,7 +31,7 @@ fn visit_row(
     record: &mut [u64],
     at: usize,
 ) -> u64
-    requires { ⌜ (0 < p .columns) × Within (p .columns) (startsOf (p .columns) rows) (length (now m)) × (at + 2 * p .columns < 2 ^ 64) ⌝ }
+    requires { ⌜ Packable (settings p) × Within (p .columns) (startsOf (p .columns) rows) (length (now m)) × (at + p .columns < 2 ^ 64) ⌝ }
     ensures { λ r. ⌜ (r ≡ p .columns) × (work (now (s .exit)) (now (m .exit)) ≡ visitColumns (settings p) rows (p .columns) (work (now (s .entry)) (now (m .entry)))) × (now («record» .exit) ≡ zipAt (λ x y. y) at (now («record» .entry)) (encodePicks (columnPicks (settings p) rows (p .columns) (work (now (s .entry)) (now (m .entry)))))) ⌝ }
 {
     let starts = Starts::of(rows, p.columns);
@@ -58,7 +39,7 @@ fn visit_row(
     let mut calls: u64 = 0;
     let mut col = 0;
     while col < p.columns {
-        note_pair(record, at + 2 * col, next.col0.0, next.col1.0);
+        note(record, at + col, next.col0.0, next.col1.0);
         next = visit_column(s, m, starts, Column(col), next, p);
         calls += 1;
         col += 1;
@@ -102,8 +83,8 @@ fn visit(
     ensures { λ r. ⌜ OneVisit (settings p) at (walk (work (now (s .entry)) (now (m .entry))) (prev0 .0) (prev1 .0)) (walk (work (now (s .exit)) (now (m .exit))) (r .row0 .0) (r .row1 .0)) (now («record» .entry)) (now («record» .exit)) (r .calls) ⌝ }
 {
     let r = pick_rows(s, prev0, prev1, p);
-    note_pair(record, at, r.row0.0, r.row1.0);
-    let calls = visit_row(s, m, r, p, record, at + 2);
+    note(record, at, r.row0.0, r.row1.0);
+    let calls = visit_row(s, m, r, p, record, at + 1);
     let row0 = r.row0;
     let row1 = r.row1;
     Visited { row0, row1, calls }
@@ -134,14 +115,14 @@ pub fn wander(
     let mut row0 = first.row0.0;
     let mut row1 = first.row1.0;
     let mut calls = first.calls;
-    let mut at = 2 + 2 * p.columns;
+    let mut at = 1 + p.columns;
     let mut k = 1;
     while k < n {
         let v = visit(s, m, Row(row0), Row(row1), p, record, at);
         row0 = v.row0.0;
         row1 = v.row1.0;
         calls += v.calls;
-        at += 2 + 2 * p.columns;
+        at += 1 + p.columns;
         k += 1;
     }
     Visited {

@@ -12,7 +12,7 @@ use Rattle.room_refusals.proofs.recorded_refusal.Tie as tie
 
 -- what the checks of the plain derivation leave
 visited : (l : Lengths) (p : Parameters) (m : ℕ) → first (plainChecks l p m) ≡ 0
-    → (p .columns ≤ 256) × (p .rows * p .time ≤ 4177920) × (p .rows * p .time * (2 + 2 * p .columns) ≤ 2147450880)
+    → (p .columns ≤ 256) × (p .rows * p .time ≤ 4177920) × (p .rows * p .time * (1 + p .columns) ≤ 1073725440)
 unfolding plainChecks costChecks
 visited l p m e =
     let bounds = accepted (plainChecks l p m) (omega arith) e in

@@ -28,7 +28,7 @@ use Rattle.runs.proofs.run.Tie as tie
 record Few (p : Parameters) : Type 0 where
   cells : p .rows * p .columns ≤ 4194304
   visits : p .rows * p .time ≤ 4177920
-  words : p .rows * p .time * (2 + 2 * p .columns) ≤ 2147450880
+  words : p .rows * p .time * (1 + p .columns) ≤ 1073725440
   calls : p .rows * p .time * p .columns ≤ 1069547520
 
 few : (l : Lengths) (p : Parameters) (m : ℕ) → Accepted (plainChecks l p m) → Few p
@@ -50,7 +50,7 @@ wander-requires c κs =
     let up = c .before .before .before .before .before .before .before .set-up in
     let f = few _ (start .args .p) _ (start .pre) in (
       record {
-        columns-pos = omega (arith, start .pre);
+        packable = omega (arith, start .pre);
         prev0-lt = omega (arith, start .pre);
         prev1-lt = omega (arith, start .pre, up .ensures .0, prev1-lt (start .args .p .rows - 3));
         room = omega (arith, up .kept .1 .0, start .pre);

@@ -16,12 +16,18 @@ use Rattle.wandering.proofs.Recording.{visit-done, visit-noted}
 use Rattle.wandering.proofs.visit.Statement.{statement}
 use Rattle.wandering.proofs.visit.Tie as tie
 
+note-requires : tie.Need-note-requires
+note-requires c κs =
+    let r = c .before .pick-rows .ensures in
+    let most = c .before .before .before .before .before .pre .0 .packable .rows-most in
+    (omega (arith, r .0), omega (arith, r .1))
+
 visit-row-requires : tie.Need-visit-row-requires
 unfolding pickedRows
 visit-row-requires c κs =
     let start = c .before .before .before .before .before .before .before .before .before .before .before in
     let r = c .before .before .before .before .before .before .before .pick-rows in (
-      start .pre .0 .columns-pos,
+      start .pre .0 .packable,
       within (start .args .p .rows) (start .args .p .columns) (length (now (start .args .m))) (start .pre .0 .room) (r .result) (r .ensures .0) (r .ensures .1)
           (omega (arith, start .pre .0 .prev0-lt, ap (λ (q : Rows). q .prev0 .0) (r .ensures .2))) (omega (arith, start .pre .0 .prev1-lt, ap (λ (q : Rows). q .prev1 .0) (r .ensures .2))),
       omega arith,
@@ -33,7 +39,7 @@ returns c =
     let start = c .before .before .before .before .before .before .before .before .before .before .before .before .before .before .before .before .before .before in
     let r = c .before .before .before .before .before .before .before .before .before .before .before .before .before .before .pick-rows in
     let row = c .before .before .before .before .before .before .visit-row in
-    let noted = c .before .before .before .before .before .before .before .before .before .before .before .before .note-pair in
+    let noted = c .before .before .before .before .before .before .before .before .before .before .before .before .note in
     let w = walk (work (now (start .args .s)) (now (start .args .m))) (start .args .prev0 .0) (start .args .prev1 .0) in
     record {
       counted = row .ensures .0;
@@ -41,9 +47,10 @@ returns c =
       prev1-lt = r .ensures .1;
       walked = visit-done (settings (start .args .p)) w (r .result) (r .ensures .2) _ (row .ensures .1);
       noted = visit-noted (settings (start .args .p)) w (r .result) (r .ensures .2) (start .args .at) (now (start .args .«record»)) _
-          (row .ensures .2 ∙ ap (λ (l : List ℕ). zipAt (λ x y. y) (start .args .at + 2) l (encodePicks (columnPicks (settings (start .args .p)) (r .result) (start .args .p .columns) (w .done)))) (noted .ensures));
+          (row .ensures .2 ∙ ap (λ (l : List ℕ). zipAt (λ x y. y) (start .args .at + 1) l (encodePicks (columnPicks (settings (start .args .p)) (r .result) (start .args .p .columns) (w .done)))) (noted .ensures));
     }
 
 pub visit-spec : {M : Type 1} → statement M
 visit-spec =
-    tie.close (tie.spec (omega arith) (omega arith) (omega arith) visit-row-requires (omega arith) (omega arith) returns)
+    tie.close
+    (tie.spec (λ c κs. c .before .before .before .pre .0 .packable .rows-pos) note-requires (omega arith) visit-row-requires (omega arith) (omega arith) returns)

@@ -29,6 +29,12 @@ unfolding visitColumns columnPicks encodePicks
 loop-holds c =
     (omega arith, refl, refl, refl, c .pick-columns .ensures, λ r e. (loop-none _ _, sym (zipAt-none _ _ _)))
 
+note-requires : tie.Need-note-requires Inv-loop μ-loop
+note-requires c κs =
+    let next = c .before .before .before .loop .inv .4 in
+    let most = c .before .before .before .before .before .before .before .before .before .pre .0 .columns-most in
+    (omega (arith, next .col0), omega (arith, next .col1))
+
 visit-column-requires : tie.Need-visit-column-requires Inv-loop μ-loop
 visit-column-requires c κs =
     let head = c .before .before .before .before .before .before .before .before in
@@ -39,7 +45,7 @@ loop-again : tie.Need-loop-again Inv-loop μ-loop
 unfolding visitColumns
 loop-again c =
     let visited = c .before .before .visit-column in
-    let noted = c .before .before .before .before .before .before .before .note-pair in
+    let noted = c .before .before .before .before .before .before .before .note in
     let head = c .before .before .before .before .before .before .before .before .before .before .before in
     let a = head .before .before .before .before .before .before .args in
     let v = head .loop in (
@@ -69,5 +75,5 @@ returns c =
 pub visit-row-spec : {M : Type 1} → statement M
 visit-row-spec =
     tie.close
-    (tie.spec Inv-loop μ-loop (omega arith) (omega arith) loop-holds (omega arith) (omega arith) (omega arith) visit-column-requires (omega arith)
+    (tie.spec Inv-loop μ-loop (omega arith) (λ c κs. c .before .before .before .before .pre .0 .columns-pos) loop-holds (omega arith) note-requires visit-column-requires (omega arith)
     (omega arith) (omega arith) loop-again (λ c. c .before .before .loop .inv .2) (λ c. c .before .before .loop .inv .3) returns)

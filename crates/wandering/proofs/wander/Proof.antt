@@ -48,7 +48,7 @@ visit-requires-2 c κs =
     let v = c .before .before .before .before .loop in
     let start = c .before .before .before .before .before .before .before .before .before .before .before .before .before .before .before .before .before in (
       record {
-        columns-pos = start .pre .0 .columns-pos;
+        packable = start .pre .0 .packable;
         prev0-lt = v .inv .1;
         prev1-lt = v .inv .2;
         room = omega (arith, v .inv .5, c .before .before .before .before .before .before .before .before .before .before .visit .kept .1 .0, start .pre .0 .room);
@@ -94,9 +94,6 @@ wander-spec =
     omega (arith, one-visit (start .args .n) (start .args .p) (omega (arith, c .before .before .before .before .before .before .before .before .before .if1 .left)) (start .pre .1)))
     (λ c.
     let start = c .before .before .before .before .before .before .before .before .before .before .before .before in
-    omega (arith, one-visit (start .args .n) (start .args .p) (omega (arith, c .before .before .before .before .before .before .before .before .before .if1 .left)) (start .pre .1)))
-    (λ c.
-    let start = c .before .before .before .before .before .before .before .before .before .before .before .before in
     let first = c .before .before .before .before .before .visit .ensures in
     let fits = one-visit (start .args .n) (start .args .p) (omega (arith, c .before .before .before .before .before .before .before .before .before .if1 .left)) (start .pre .1) in
     (omega arith, first .prev0-lt, first .prev1-lt, omega (arith, first .counted), omega arith, refl, refl, fits, λ w xs d. d))
@@ -105,7 +102,7 @@ wander-spec =
     let v = c .before .before .before .before .before .before .before .before .before .before .loop in
     let start = c .before .before .before .before .before .before .before .before .before .before .before .before .before .before .before .before .before .before .before .before .before .before .before in
     omega (arith, v .inv .3, c .before .before .before .before .before .visit2 .ensures .counted, start .pre .2, row-before (v .k) (start .args .n) (start .args .p .columns) (c .before .before .before .before .before .before .before .before .before .loop-test .taken)))
-    (λ c. omega (arith, c .before .before .before .before .before .before .before .before .before .before .before .loop .inv .7)) (λ c. omega (arith, c .before .before .before .before .before .before .before .before .before .before .before .loop .inv .7))
+    (λ c. omega (arith, c .before .before .before .before .before .before .before .before .before .before .before .loop .inv .7))
     (λ c.
     let v = c .before .before .before .before .before .before .before .before .before .before .before .loop in
     let start = c .before .before .before .before .before .before .before .before .before .before .before .before .before .before .before .before .before .before .before .before .before .before .before .before in

@@ -1,0 +1,2 @@
+-- The laws of packed words.
+pub mod PackingLaws

@@ -1,0 +1,2 @@
+-- The words of the visit record.
+pub mod Packing
