@@ -2,7 +2,8 @@
 //!
 //! Each function returns 0 or the number of a refusal and leaves the places for the answer to the caller, who
 //! can so see what a call does to them: after a refusal `same`, the counts, the state, `row1`, a line's values and its
-//! length are 0, and all other memory is what it was. The crate `lyra2` turns the numbers into results.
+//! length are 0, and all other memory is what it was. [`record_pair`] alone refuses nothing and returns its answer.
+//! The crate `lyra2` turns the numbers into results.
 //!
 //! All functions here are safe to call. The proved functions ask nothing of their arguments, read and write
 //! only the elements that a pointer's length covers, keep no pointer, and end. What is left to Rust is that
@@ -176,6 +177,15 @@ pub fn cost(sizes: Sizes, counts: &mut Counts) -> u32 {
 pub fn walk(rows: usize, row0: usize, row1: &mut usize) -> u32 {
     // SAFETY: the pointer is to a number that this call alone borrows.
     unsafe { foreign::lyra2_walk(rows, row0, row1) }
+}
+
+/// The two numbers of a word of the record, which may be any word: bits 0 to 15, and all bits above them. Of a visit's
+/// first word they are row0 and row1, of its other words col0 and col1 of a column.
+pub fn record_pair(word: u64) -> [u64; 2] {
+    let mut numbers = [0; 2];
+    // SAFETY: the pointer is to two numbers that this call alone borrows.
+    unsafe { foreign::lyra2_record_pair(word, &mut numbers) };
+    numbers
 }
 
 /// Reads a login line: salt and key become the first bytes of theirs, the rest of both is kept.
