@@ -1,7 +1,6 @@
 -- `note` meets its contract: a store past the end changes nothing. Assumes nothing.
 use borrow.Author.Needs.{needs}
 use mathlib.Core.Path.{sym}
-use native.Mathlib.Omega.{arith}
 use lib.Seq.{set-out}
 use Rattle.packing.proofs.note.Statement.{statement}
 use Rattle.packing.proofs.note.Tie as tie
