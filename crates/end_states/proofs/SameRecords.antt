@@ -19,7 +19,7 @@ use Rattle.wandering.proofs.EncodingLaws.{LowPicks, LowVisits, low-visits, deco
 use Rattle.wandering.proofs.Recording.{length-visits}
 use Rattle.derivation.specs.Derivation.{endRecord}
 use Rattle.end_states.specs.EndStates.{End, endOf}
-use Rattle.end_states.specs.Trials.{Trial, inputOf, leftBy}
+use Rattle.end_states.specs.Trials.{Trial, leftBy}
 use Rattle.end_states.specs.Unpacked.{unpackedPicks, unpackedVisit, unpacked, visitsOf, unpackedRecord}
 use Rattle.end_states.proofs.Demand3.{packable-of, end-of}
 

@@ -1,6 +1,7 @@
 -- Statements about the whole base, and their proofs.
 pub mod Cases
 pub mod BlaMkaCases
+pub mod RecordCases
 pub mod Independence
 pub mod SameKey
 pub mod NothingLeft
