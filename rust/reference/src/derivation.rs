@@ -2,6 +2,7 @@
 
 use crate::input::{absorb_input, padded_input, Parameters};
 use crate::matrix::{Column, Matrix};
+use crate::record;
 use crate::refusal::{self, Refusal};
 use crate::settings::Settings;
 use crate::setup::setup;
@@ -71,9 +72,9 @@ pub fn derive_recorded(
     let given = inputs.parameters(key.len());
     refusal::check_record(&given, inputs.settings, matrix, record)?;
     let mut places = record.iter_mut();
-    let mut note = |number: usize| {
+    let mut note = |numbers: [usize; 2]| {
         if let Some(place) = places.next() {
-            *place = number as u64;
+            *place = record::word(numbers.map(|number| number as u64));
         }
     };
     Ok(run(inputs, key, matrix, &mut note))
@@ -108,7 +109,7 @@ fn run(
     inputs: &Inputs,
     key: &mut [u8],
     lent: &mut [u64],
-    note: &mut impl FnMut(usize),
+    note: &mut impl FnMut([usize; 2]),
 ) -> Recorded {
     let Settings { rho, omega, mixer } = inputs.settings;
     let omega = omega as usize;

@@ -31,7 +31,7 @@ impl Parameters {
 
     /// Words of the used record; the largest number if the product has no room in 64 bits.
     pub fn record_words(&self) -> u64 {
-        let words_per_visit = self.c.saturating_mul(2).saturating_add(2);
+        let words_per_visit = self.c.saturating_add(1);
         let visits = self.r.saturating_mul(self.t);
         visits.saturating_mul(words_per_visit)
     }

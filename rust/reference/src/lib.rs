@@ -13,7 +13,8 @@
 //! | `visits` | 22 to 32 |
 //! | `derivation` | 33 to 36, and the operations open to callers |
 //!
-//! `line` reads and writes the login lines of request #105, which the algorithm does not know.
+//! `line` reads and writes the login lines of request #105, and `record` the words in which the visits are noted down; the
+//! algorithm knows neither.
 //!
 //! The caller lends every buffer. A refused call leaves all of them as they were. An accepted plain derivation
 //! or check ends with zeros in the used matrix (request #104); only the recorded derivation keeps its end matrix.
@@ -40,6 +41,7 @@ pub mod derivation;
 pub mod input;
 pub mod line;
 mod matrix;
+pub mod record;
 pub mod refusal;
 pub mod settings;
 mod setup;

@@ -63,7 +63,7 @@ refusals! {
     /// The lent matrix is too short for R and C.
     MatrixWords = 7, "the matrix must have at least 12*R*C words";
     /// The lent record is too short for T, R and C.
-    RecordWords = 8, "the record must have at least R*T*(2+2*C) words";
+    RecordWords = 8, "the record must have at least R*T*(1+C) words";
     /// The walk question names a row that no Setup step fills.
     WalkRow = 9, "row0 must be 3 to R-1";
     /// The salt is too long.

@@ -5,6 +5,7 @@
 
 use super::case::{Bytes, Given, NamedSettings, Question};
 use super::random::Random;
+use super::record::unpacked_words;
 use crate::input::Parameters;
 use crate::Inputs;
 
@@ -32,7 +33,7 @@ pub(super) const BASE: Shape = Shape {
 };
 
 impl Shape {
-    fn parameters(&self) -> Parameters {
+    pub fn parameters(&self) -> Parameters {
         Parameters {
             key_len: self.key_len,
             password_len: self.password_len,
@@ -56,7 +57,7 @@ impl Shape {
         }
     }
 
-    /// A recorded derivation with random contents and buffers that fit exactly.
+    /// A recorded derivation with random contents, a matrix that fits exactly, and a record that did before request #108.
     pub fn recorded(&self, random: &mut Random) -> Question {
         self.recorded_of(self.given(random))
     }
@@ -69,7 +70,7 @@ impl Shape {
         Question::DeriveRecorded {
             given,
             key_len: self.key_len,
-            record_words: self.parameters().record_words(),
+            record_words: unpacked_words(&self.parameters()),
             in_full,
         }
     }
@@ -266,7 +267,7 @@ fn spare_words(seed: u64, sizes: &[(u64, u64, u64)]) -> Vec<Question> {
             questions.push(Question::DeriveRecorded {
                 given,
                 key_len: shape.key_len,
-                record_words: shape.parameters().record_words() + record_spare,
+                record_words: unpacked_words(&shape.parameters()) + record_spare,
                 in_full: false,
             });
         }

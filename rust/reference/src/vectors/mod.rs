@@ -14,6 +14,7 @@ mod mixer;
 pub mod random;
 pub mod random_line;
 pub mod read;
+mod record;
 mod refused;
 pub mod run;
 mod settings;
@@ -43,6 +44,8 @@ pub fn chosen_questions() -> Vec<Question> {
         refused::of_settings(),
         mixer::accepted(),
         refused::with_blamka(),
+        record::questions(),
+        refused::of_records(),
     ]
     .concat()
 }

@@ -69,7 +69,9 @@ pub fn question(random: &mut Random) -> Question {
     let mut key_len = random.mostly(1, 200, 1024, 8);
     let fitting = given.parameters(key_len);
     given.matrix_words = fitting.matrix_words() + random.mostly(0, 0, 30, 4);
-    let mut record_words = fitting.record_words() + random.mostly(0, 0, 30, 4);
+    // Up to a record with a number in each word and beyond: what such a one has more must be kept.
+    let most_spare = fitting.record_words() + 30;
+    let mut record_words = fitting.record_words() + random.mostly(0, 0, most_spare, 4);
     if random.once_in(8) {
         spoil(random, &mut given, &mut key_len, &mut record_words);
     }

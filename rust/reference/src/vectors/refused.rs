@@ -4,6 +4,7 @@
 
 use super::case::{Bytes, Given, NamedSettings, Question};
 use super::random::Random;
+use super::record::{self, unpacked_words};
 use crate::input::Parameters;
 use crate::refusal::Refusal;
 use crate::settings::Mixer;
@@ -25,7 +26,7 @@ struct Sizes {
 /// The usual rounds and rotation, named.
 const USUAL_PAIR: NamedSettings = NamedSettings::pair(1, 2);
 
-/// An accepted call whose buffers fit exactly.
+/// An accepted call whose matrix fits exactly, and whose record did before request #108.
 const FITTING: Sizes = Sizes {
     key_len: 32,
     password_len: 31,
@@ -90,12 +91,24 @@ impl Sizes {
         self.given().parameters(self.key_len)
     }
 
-    /// The same with buffers that fit exactly.
+    /// The same with the usual rounds and rotation and this mixer, which the line then names.
+    fn with_mixer(self, mixer: Mixer) -> Sizes {
+        let settings = NamedSettings {
+            mixer: Some(mixer),
+            ..USUAL_PAIR
+        };
+        Sizes {
+            settings: Some(settings),
+            ..self
+        }
+    }
+
+    /// The same with a matrix that fits exactly, and a record that did before request #108.
     fn fitting(self) -> Sizes {
         let parameters = self.parameters();
         Sizes {
             matrix_words: parameters.matrix_words(),
-            record_words: parameters.record_words(),
+            record_words: unpacked_words(&parameters),
             ..self
         }
     }
@@ -165,6 +178,7 @@ fn single() -> Vec<Question> {
         };
         calls.push((Refusal::MatrixWords, sizes));
     }
+    // 8 and 11 words were refused before request #108; their cases are accepted.
     for record_words in [0, 1, 4, 8, 11] {
         let sizes = Sizes {
             record_words,
@@ -178,7 +192,7 @@ fn single() -> Vec<Question> {
         .collect()
 }
 
-/// Matrices and records that lack a single word, for several shapes.
+/// Matrices that lack a single word, and records that did before request #108, for several shapes.
 fn short_buffers() -> Vec<Question> {
     let mut questions = Vec::new();
     for (t, r, c) in [
@@ -203,7 +217,7 @@ fn short_buffers() -> Vec<Question> {
     questions
 }
 
-/// The largest matrix, first one word short, then with a record that is.
+/// The largest matrix, first one word short, then with a record that was before request #108, then with none.
 fn largest_buffers() -> Vec<Question> {
     let sizes = Sizes {
         r: 16_384,
@@ -258,8 +272,8 @@ fn all_but(left_out: &[Size]) -> Vec<Size> {
     SIZES.into_iter().filter(kept).collect()
 }
 
-/// Takes a size out of its limits, from below or from above, and returns the check that turns it down. Only
-/// T = 0 is not turned down, and the next condition is then the first that holds.
+/// Takes a size out of its limits, from below or from above, and returns the check that turns it down. Only T = 0 and a
+/// record of 11 words, once refused, are not turned down, and the next condition is then the first that holds.
 fn make_hold(sizes: &mut Sizes, size: Size, from_above: bool) -> Refusal {
     let pick = |below, above| if from_above { above } else { below };
     let (place, value, check) = match (size, from_above) {
@@ -558,13 +572,7 @@ const IN_ORDER: [Size; 10] = [
 /// Each condition with BlaMka: alone, with the next in the order, and with others at random. The cost question takes no
 /// mixer.
 pub fn with_blamka() -> Vec<Question> {
-    let base = Sizes {
-        settings: Some(NamedSettings {
-            mixer: Some(Mixer::BlaMka),
-            ..USUAL_PAIR
-        }),
-        ..FITTING
-    };
+    let base = FITTING.with_mixer(Mixer::BlaMka);
     let mut questions = with_each(base, &IN_ORDER, &[false, true]);
     for two in IN_ORDER.windows(2) {
         for from_above in [false, true] {
@@ -601,6 +609,44 @@ fn random_with(base: Sizes) -> Vec<Question> {
             }
         }
         questions.extend(sizes.questions());
+    }
+    questions
+}
+
+/// Short records with either mixer: of several shapes, with every other condition, and with all from one on.
+pub fn of_records() -> Vec<Question> {
+    let others = &IN_ORDER[..IN_ORDER.len() - 1];
+    let mut questions = Vec::new();
+    for mixer in [Mixer::Plain, Mixer::BlaMka] {
+        let named = FITTING.with_mixer(mixer);
+        let of_words = |record_words| Sizes {
+            record_words,
+            ..named
+        };
+        questions.extend((0..=5).map(|words| of_words(words).recorded()));
+        questions.extend(short_records(named, &record::SHAPES));
+        questions.extend(with_each(of_words(5), others, &[false, true]));
+        questions.extend(all_from_one_on(of_words(5), others));
+    }
+    // The first of these needs 65,536 words, which are none if cut to 16 bits.
+    let large = [[2, 16_384, 1], [255, 16_384, 1], [1, 16_384, 256]];
+    questions.extend(short_records(FITTING.with_mixer(Mixer::Plain), &large));
+    // Only the recorded derivation has a record.
+    questions.retain(|question| matches!(question, Question::DeriveRecorded { .. }));
+    without_repeats(questions)
+}
+
+/// Records that lack one word or all of them, and one word of the matrix as well.
+fn short_records(base: Sizes, shapes: &[[u64; 3]]) -> Vec<Question> {
+    let mut questions = Vec::new();
+    for &[t, r, c] in shapes {
+        let mut sizes = Sizes { t, r, c, ..base }.fitting();
+        sizes.record_words = 0;
+        questions.push(sizes.recorded());
+        sizes.record_words = sizes.parameters().record_words() - 1;
+        questions.push(sizes.recorded());
+        sizes.matrix_words -= 1;
+        questions.push(sizes.recorded());
     }
     questions
 }
