@@ -68,10 +68,10 @@ fn recorded_derivations_with_a_short_record() {
     assert!(run_lines(wanted) >= 15);
 }
 
-/// One line derives; one is refused for its matrix, and two for their records. All are lent 400 MB.
+/// Three lines derive; two are refused for their matrices, and three for their records. All are lent 400 MB.
 #[test]
 fn recorded_derivations_with_the_largest_matrix() {
-    assert_eq!(run_lines(lends_many_words), 4);
+    assert_eq!(run_lines(lends_many_words), 8);
 }
 
 #[test]
