@@ -162,5 +162,5 @@ fn accepted_extremes() {
 fn smallest_buffers() {
     let given = parameters(32, 31);
     assert_eq!(given.matrix_words(), 36);
-    assert_eq!(given.record_words(), 12);
+    assert_eq!(given.record_words(), 6);
 }

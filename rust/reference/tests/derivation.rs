@@ -1,6 +1,7 @@
 //! The derivations: what they leave in the lent buffers, and how they agree with one another.
 
 use lyra2_reference::input::{absorb_input, padded_input};
+use lyra2_reference::record;
 use lyra2_reference::refusal::{ROTATIONS, ROUNDS};
 use lyra2_reference::sponge::{round, Sponge};
 use lyra2_reference::{check, cost, derive, derive_recorded, Inputs, Mixer, Recorded, Settings};
@@ -83,7 +84,9 @@ fn end(inputs: &Inputs, key_len: usize, spare: usize, fill: u64) -> End {
 #[test]
 fn words_past_the_used_parts_stay() {
     for inputs in all_inputs() {
-        for spare in [1, 11, 12, 1000] {
+        // As many record words again as are used, which the form from before request #108 would write.
+        let again = inputs.parameters(32).record_words() as usize;
+        for spare in [1, 11, 12, 1000, again] {
             let end = end(&inputs, 32, spare, 0xabcd);
             let used_matrix = end.matrix.len() - spare;
             let used_record = end.record.len() - spare;
@@ -228,8 +231,8 @@ fn state_matrix_and_record_give_the_key() {
         let end = end(&inputs, 200, 0, 0);
         let mut state = end.answer.state;
         // Row 0 of the last visit; without visits it is the row that Setup filled last.
-        let visits = end.record.chunks(2 + 2 * c as usize);
-        let row0 = visits.last().map_or(r - 1, |visit| visit[0]);
+        let visits = record::visits(&end.record, c as usize);
+        let row0 = visits.last().map_or(r - 1, |visit| visit.rows[0]);
         let cell_start = (12 * row0 * c) as usize;
         let cell = &end.matrix[cell_start..cell_start + 12];
         for (state_word, cell_word) in state.iter_mut().zip(cell) {
@@ -251,11 +254,12 @@ fn record_holds_rows_and_columns_of_the_matrix() {
     for inputs in all_inputs() {
         let (t, r, c) = (inputs.t, inputs.r, inputs.c);
         let end = end(&inputs, 32, 0, u64::MAX);
-        let visits: Vec<_> = end.record.chunks(2 + 2 * c as usize).collect();
+        let visits = record::visits(&end.record, c as usize);
         assert_eq!(visits.len() as u64, r * t);
         for visit in visits {
-            assert!(visit[..2].iter().all(|&row| row < r));
-            assert!(visit[2..].iter().all(|&col| col < c));
+            assert!(visit.rows.iter().all(|&row| row < r));
+            assert_eq!(visit.columns.len() as u64, c);
+            assert!(visit.columns.as_flattened().iter().all(|&col| col < c));
         }
     }
 }

@@ -8,7 +8,7 @@ mod second_writing;
 
 use lyra2_reference::vectors::{checksum, Answer, Given, Question};
 use lyra2_reference::{Mixer, Settings};
-use second_writing::{derive, Call, Inputs, Misreading, Misreading::*};
+use second_writing::{derive, Call, End, Inputs, Misreading, Misreading::*};
 
 /// Inputs of the second writing.
 fn inputs(given: &Given, key_len: u64) -> Inputs {
@@ -53,13 +53,23 @@ fn told_apart(misreading: Misreading) -> usize {
 
 /// The same of some derivations alone.
 fn told_apart_among(misreading: Misreading, wanted: impl Fn(&Inputs) -> bool) -> usize {
-    let differs = |inputs: &Inputs, answer: &Answer| match answer {
-        Answer::Recorded { key: right, .. } => key(inputs, misreading) != *right,
+    told_apart_by(misreading, wanted, |end, answer| match answer {
+        Answer::Recorded { key, .. } => end.key != *key,
         _ => false,
-    };
+    })
+}
+
+/// Some derivations of the file that the misreading ends otherwise than answered.
+fn told_apart_by(
+    misreading: Misreading,
+    wanted: impl Fn(&Inputs) -> bool,
+    differs: impl Fn(&End, &Answer) -> bool,
+) -> usize {
     derivations_of_the_file()
         .iter()
-        .filter(|(_, inputs, answer)| wanted(inputs) && differs(inputs, answer))
+        .filter(|(_, inputs, answer)| {
+            wanted(inputs) && differs(&derive(inputs, misreading), answer)
+        })
         .count()
 }
 
@@ -303,14 +313,11 @@ fn rounds_of_full_calls_and_of_one_phase() {
 #[test]
 fn reduced_calls_counted_as_one_round() {
     assert_right_for(RoundsCountedOnce, |_, _| true);
-    let differs = |inputs: &Inputs, answer: &Answer| match answer {
-        Answer::Recorded { counts, .. } => derive(inputs, RoundsCountedOnce).counts != *counts,
+    let differs = |end: &End, answer: &Answer| match answer {
+        Answer::Recorded { counts, .. } => end.counts != *counts,
         _ => false,
     };
-    let told_apart = derivations_of_the_file()
-        .iter()
-        .filter(|(_, inputs, answer)| differs(inputs, answer))
-        .count();
+    let told_apart = told_apart_by(RoundsCountedOnce, |_| true, differs);
     assert!(told_apart >= 100, "{told_apart}");
 }
 
@@ -394,4 +401,47 @@ fn some_calls_without_the_mixer() {
     ] {
         assert_wrong_for(PlainCalls(plain), &[Mixer::BlaMka]);
     }
+}
+
+/// The file has to tell records written otherwise apart with each mixer, at least so many times. The key is right then;
+/// the record alone tells.
+fn assert_records_tell(misreading: Misreading, at_least: usize) {
+    let usual = named(8, 5, 3);
+    assert_eq!(key(&usual, misreading), right_key(&usual), "{misreading:?}");
+    for mixer in [Mixer::Plain, Mixer::BlaMka] {
+        let wanted = |inputs: &Inputs| inputs.mixer == mixer;
+        let told_apart = told_apart_by(misreading, wanted, |end, answer| match answer {
+            Answer::Recorded { record_sum, .. } => checksum::of_words(&end.record) != *record_sum,
+            _ => false,
+        });
+        let found = format!("{misreading:?}, {mixer:?}: {told_apart}");
+        assert!(told_apart >= at_least, "{found}");
+    }
+}
+
+#[test]
+fn record_words_of_another_form() {
+    for misreading in [
+        RecordUnpacked,
+        RecordExchanged,
+        RecordColumnsExchanged,
+        RecordFactor(1 << 8),
+        RecordFactor(1 << 14),
+        RecordFactor(1 << 32),
+    ] {
+        assert_records_tell(misreading, 100);
+    }
+}
+
+#[test]
+fn rows_of_a_visit_in_another_place_of_the_record() {
+    for misreading in [RecordRowsTwice, RecordRowsLast, RecordRowsLeftOut] {
+        assert_records_tell(misreading, 100);
+    }
+}
+
+/// Only rows from 256 on show it.
+#[test]
+fn record_words_of_single_bytes() {
+    assert_records_tell(RecordCut(8), 5);
 }

@@ -33,7 +33,7 @@ const ACCEPTED: Call = Call {
     c: 1,
     settings: Settings::USUAL,
     matrix_words: 36,
-    record_words: 12,
+    record_words: 6,
 };
 
 /// The answers of the four operations: recorded, plain, check and cost, each 0 or a refusal's number.
@@ -176,16 +176,15 @@ fn limits_themselves_are_accepted() {
     for salt_len in [8, 64] {
         assert_eq!(changed(|call| call.salt_len = salt_len), [0; 4]);
     }
-    for (t, record_words) in [(0, 0), (0, 12), (255, 255 * 12)] {
+    for (t, record_words) in [(0, 0), (0, 6), (255, 255 * 6)] {
         let change = |call: &mut Call| (call.t, call.record_words) = (t, record_words);
         assert_eq!(changed(change), [0; 4]);
     }
     let high = |call: &mut Call| {
-        (call.r, call.matrix_words, call.record_words) = (16_384, 196_608, 65_536)
+        (call.r, call.matrix_words, call.record_words) = (16_384, 196_608, 32_768)
     };
     assert_eq!(changed(high), [0; 4]);
-    let wide =
-        |call: &mut Call| (call.c, call.matrix_words, call.record_words) = (256, 9_216, 1_542);
+    let wide = |call: &mut Call| (call.c, call.matrix_words, call.record_words) = (256, 9_216, 771);
     assert_eq!(changed(wide), [0; 4]);
     for rho in ROUNDS {
         for omega in ROTATIONS {
@@ -206,7 +205,7 @@ fn buffers_one_word_short() {
     let short_matrix = expected(&[Refusal::MatrixWords]);
     let short_record = expected(&[Refusal::RecordWords]);
     for (t, r, c) in [(1, 3, 1), (2, 3, 1), (1, 7, 4), (3, 4, 5), (1, 64, 16)] {
-        let (matrix_words, record_words) = (12 * r * c, r * t * (2 + 2 * c));
+        let (matrix_words, record_words) = (12 * r * c, r * t * (1 + c));
         let fitting = Call {
             t: t as u64,
             r: r as u64,
@@ -244,7 +243,7 @@ fn make_hold(call: &mut Call, check: Refusal, high: bool) {
         Refusal::Rounds => call.settings.rho = pick(0, 13),
         Refusal::Rotation => call.settings.omega = pick(0, 12),
         Refusal::MatrixWords => call.matrix_words = pick(0, 35) as usize,
-        Refusal::RecordWords => call.record_words = pick(0, 11) as usize,
+        Refusal::RecordWords => call.record_words = pick(0, 5) as usize,
         Refusal::WalkRow | Refusal::LineForm | Refusal::OutputTooShort => {
             panic!("none of the four operations has this check")
         }
@@ -313,7 +312,7 @@ fn refused_calls_keep_a_matrix_that_would_have_fitted() {
         };
         let before: Vec<u64> = (1..=call.matrix_words as u64).map(|word| !word).collect();
         let mut matrix = before.clone();
-        let (mut key, mut record) = (vec![3; call.key_len], [5; 12]);
+        let (mut key, mut record) = (vec![3; call.key_len], [5; 6]);
         let answers = [
             number(derive(&inputs, &mut key, &mut matrix)),
             number(check(&inputs, &key, &mut matrix)),

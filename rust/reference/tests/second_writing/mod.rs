@@ -65,6 +65,22 @@ pub enum Misreading {
     PlainCalls(&'static [Call]),
     /// A number for BlaMka follows C in the input.
     MixerAbsorbed,
+    /// A record has each number in a word of its own, as before request #108.
+    RecordUnpacked,
+    /// The second number of a record's word is the low one.
+    RecordExchanged,
+    /// The second number of a column's word is the low one; the rows' words are right.
+    RecordColumnsExchanged,
+    /// The second number of a record's word is multiplied by this.
+    RecordFactor(u64),
+    /// The numbers of a record's word are cut to this many bits.
+    RecordCut(u32),
+    /// A record has the rows' word of a visit twice.
+    RecordRowsTwice,
+    /// A record has the rows' word of a visit after the columns'.
+    RecordRowsLast,
+    /// A record has no word for a visit's rows.
+    RecordRowsLeftOut,
 }
 
 /// What a call of the sponge is made for.
@@ -261,7 +277,8 @@ impl Derivation {
     fn visit(&mut self) {
         let first = self.picking_words();
         let [row0, row1] = [first[0], first[1]].map(|word| (word % self.rows as u64) as usize);
-        self.record.extend([row0 as u64, row1 as u64]);
+        let first_word = self.record.len();
+        self.note([row0, row1], true);
         for col in 0..self.columns {
             let words = match self.misreading {
                 ColumnsKept => first,
@@ -269,11 +286,32 @@ impl Derivation {
             };
             let column = |word: u64| (word % self.columns as u64) as usize;
             let [col0, col1] = [words[2], words[3]].map(column);
-            self.record.extend([col0 as u64, col1 as u64]);
+            self.note([col0, col1], false);
             let previous = [self.at(self.prev0, col0), self.at(self.prev1, col1)];
             self.duplex_and_xor(self.at(row0, col), self.at(row1, col), previous);
         }
+        if self.misreading == RecordRowsLast {
+            self.record[first_word..].rotate_left(1);
+        }
         (self.prev0, self.prev1) = (row0, row1);
+    }
+
+    /// Adds two rows or two columns to the record.
+    fn note(&mut self, numbers: [usize; 2], are_rows: bool) {
+        let [mut low, mut high] = numbers.map(|number| number as u64);
+        let (mut factor, mut times) = (1 << 16, 1);
+        match self.misreading {
+            RecordUnpacked => return self.record.extend([low, high]),
+            RecordColumnsExchanged if are_rows => (),
+            RecordExchanged | RecordColumnsExchanged => (low, high) = (high, low),
+            RecordFactor(other) => factor = other,
+            RecordCut(bits) => (low, high) = (low % (1 << bits), high % (1 << bits)),
+            RecordRowsTwice if are_rows => times = 2,
+            RecordRowsLeftOut if are_rows => times = 0,
+            _ => (),
+        }
+        self.record
+            .extend(std::iter::repeat_n(low + factor * high, times));
     }
 
     fn duplex_and_xor(&mut self, first: usize, second: usize, previous: [usize; 2]) {
