@@ -77,21 +77,31 @@ pub(super) const SHAPES: [[u64; 3]; 10] = [
     [1, 16_384, 1],
 ];
 
-/// One input of each shape with several records: the used words alone, one more, one less than a number in each word
-/// takes, just these, and one more. All have one answer.
+/// Lengths of the record that are accepted: the used words, one more, one less than a number in each word takes, just
+/// these, and one more. Without visits no word is used, and some have room for a visit of each row.
+fn accepted_lengths(shape: &Shape) -> Vec<u64> {
+    let of_one_visit = Shape { t: 1, ..*shape }.parameters();
+    let before = unpacked_words(&shape.parameters());
+    match shape.parameters().record_words() {
+        0 => vec![
+            0,
+            1,
+            of_one_visit.record_words(),
+            unpacked_words(&of_one_visit),
+        ],
+        used => vec![used, used + 1, before - 1, before, before + 1],
+    }
+}
+
+/// One input of each shape with several records, which have one answer.
 fn lengths() -> Vec<Question> {
     let mut random = Random::new(46);
     let mut questions = Vec::new();
     for (place, sizes) in (0..).zip(SHAPES.into_iter().chain([[0, 3, 1], [0, 5, 3]])) {
         let mixer = if place % 2 == 0 { Plain } else { BlaMka };
         let shape = shape(mixer, [1 + place % 12, 1 + (place + 1) % 11], sizes);
-        let used = shape.parameters().record_words();
-        let before = unpacked_words(&shape.parameters());
-        let mut lent = vec![used, used + 1, before.saturating_sub(1), before, before + 1];
-        // Without visits no word is used, and some of these are the same.
-        lent.dedup();
         let contents = random.clone();
-        for record_words in lent {
+        for record_words in accepted_lengths(&shape) {
             random = contents.clone();
             questions.push(recorded(&shape, &mut random, record_words, false));
         }
