@@ -1,5 +1,5 @@
-//! Faulty programs, made on purpose: the run of the vectors file has to notice every fault. Those of the login lines stand
-//! in a file of their own.
+//! Faulty programs, made on purpose: the run of the vectors file has to notice every fault. Those of the login lines and of
+//! the record's form stand in files of their own.
 
 mod common;
 
