@@ -98,7 +98,7 @@ fn draw_sizes(random: &mut Random) -> Sizes {
         given,
         settings: random::settings(random),
         matrix_words: given.matrix_words() + random.between(0, 40),
-        record_words: given.record_words() + random.between(0, 40),
+        record_words: record_words(&given, random.between(0, 40)),
     };
     if random.once_in(16) {
         for _ in 0..random.between(1, 3) {
@@ -106,6 +106,14 @@ fn draw_sizes(random: &mut Random) -> Sizes {
         }
     }
     sizes
+}
+
+/// Words to lend for the record, so many to spare; in one of four cases also as many again as are used, which a number in
+/// each word would take and which have to be kept.
+fn record_words(given: &Parameters, spare: u64) -> u64 {
+    let used = given.record_words();
+    let again = if spare % 4 == 3 { used } else { 0 };
+    used + again + spare
 }
 
 /// A number up to the first of three limits; seldom up to the second, and hardly ever up to the third.
@@ -133,6 +141,11 @@ fn spoil(random: &mut Random, sizes: &mut Sizes) {
         7 => shorten(random, &mut sizes.matrix_words),
         8 => settings.rho = pick(0, random.between(13, u64::MAX)),
         9 => settings.omega = pick(0, random.between(12, u64::MAX)),
+        // One word too few, which the random lengths hardly ever are; never more than was lent before.
+        _ if low => {
+            let one_short = given.record_words().saturating_sub(1);
+            sizes.record_words = sizes.record_words.min(one_short);
+        }
         _ => shorten(random, &mut sizes.record_words),
     }
 }

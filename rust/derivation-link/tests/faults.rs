@@ -2,7 +2,8 @@
 
 use derivation_link::compare::compare;
 use derivation_link::Proved;
-use lyra2_reference::refusal::ROTATIONS;
+use lyra2_reference::record;
+use lyra2_reference::refusal::{check_record, ROTATIONS};
 use lyra2_reference::vectors::Subject;
 use lyra2_reference::{
     Checked, Counts, Inputs, LineParts, LineValues, Mixer, Parameters, Recorded, Refusal, Settings,
@@ -35,7 +36,14 @@ enum Fault {
     LastStateWord,
     LastRecordWord,
     RowsExchanged,
+    ColumnsExchanged,
+    RecordFactor256,
+    RowsWordTwice,
+    RecordUnpacked,
     WordPastRecord,
+    LastWordOfUnpackedRecord,
+    UnpackedRoomAsked,
+    RecordOneShortTaken,
     RecordOnRefusal,
     MatrixOnShortRecord,
     KeyOnShortRecord,
@@ -139,6 +147,45 @@ impl Faulty {
         Settings { rho, omega, mixer }
     }
 
+    /// What the faulty program says to a record of so many words.
+    fn record_check(
+        &self,
+        due: Result<(), Refusal>,
+        lent: usize,
+        used: usize,
+    ) -> Result<(), Refusal> {
+        match (self.0, due) {
+            (UnpackedRoomAsked, Ok(())) if lent < 2 * used => Err(Refusal::RecordWords),
+            (RecordOneShortTaken, Err(Refusal::RecordWords)) if lent + 1 == used => Ok(()),
+            _ => due,
+        }
+    }
+
+    /// What the faulty program makes of a record with so many used words.
+    fn spoil_record(&self, record: &mut [u64], used: usize) {
+        let [before, past] = [&record[..used], &record[used..]].map(<[u64]>::to_vec);
+        let numbers = |place: usize| before.get(place).copied().map(record::numbers);
+        match (self.0, numbers(0), numbers(1)) {
+            (LastRecordWord, Some(_), _) => record[used - 1] ^= 1,
+            (RowsExchanged, Some([row0, row1]), _) => record[0] = record::word([row1, row0]),
+            (ColumnsExchanged, _, Some([col0, col1])) => record[1] = record::word([col1, col0]),
+            (RecordFactor256, Some([row0, row1]), _) => record[0] = row0 + 256 * row1,
+            (RowsWordTwice, Some(_), _) => record[1..used].copy_from_slice(&before[..used - 1]),
+            (RecordUnpacked, _, _) => {
+                let words = before.iter().flat_map(|&word| record::numbers(word));
+                record
+                    .iter_mut()
+                    .zip(words)
+                    .for_each(|(place, word)| *place = word);
+            }
+            (WordPastRecord, _, _) if !past.is_empty() => record[used] = 0,
+            (LastWordOfUnpackedRecord, Some(_), _) if past.len() >= used => {
+                record[2 * used - 1] = 0;
+            }
+            _ => (),
+        }
+    }
+
     /// The answer where a check of the settings is made too early or too late.
     fn out_of_order(&self, inputs: &Inputs, has_short_matrix: bool, due: Refusal) -> Refusal {
         match (self.0, due) {
@@ -184,6 +231,12 @@ impl Subject for Faulty {
         let given = inputs.parameters(key.len());
         let used = given.record_words() as usize;
         let inputs = plain_if(self.0 == RecordedMixerIgnored, inputs);
+        let due = check_record(&given, inputs.settings, matrix, record);
+        match self.record_check(due, record.len(), used) {
+            same if same == due => (),
+            Ok(()) => return Proved.derive_recorded(&inputs, key, matrix, &mut vec![0; used]),
+            Err(refusal) => return Some(Err(refusal)),
+        }
         let mut answer = Proved.derive_recorded(&inputs, key, matrix, record)?;
         match (&mut answer, self.0) {
             (Ok(_), RecordedLastKeyByte) => key[key.len() - 1] ^= 1,
@@ -191,9 +244,6 @@ impl Subject for Faulty {
             (Ok(_), RecordedWiped) => matrix[..given.matrix_words() as usize].fill(0),
             (Ok(recorded), LastStateWord) => recorded.state[15] ^= 1,
             (Ok(recorded), RecordedRoundCount) => recorded.counts.rounds += 1,
-            (Ok(_), LastRecordWord) if used > 0 => record[used - 1] ^= 1,
-            (Ok(_), RowsExchanged) if used > 0 => record.swap(0, 1),
-            (Ok(_), WordPastRecord) => record[used..].iter_mut().take(1).for_each(|w| *w = 0),
             (Err(_), RecordOnRefusal) => record.fill(0),
             (Err(Refusal::RecordWords), MatrixOnShortRecord) => matrix.fill(0),
             (Err(Refusal::RecordWords), KeyOnShortRecord) => key.fill(0),
@@ -201,6 +251,7 @@ impl Subject for Faulty {
                 answer = Err(Refusal::MatrixWords);
             }
             (_, RecordedMissing) => return None,
+            (Ok(_), _) => self.spoil_record(record, used),
             _ => (),
         }
         Some(answer)
@@ -398,7 +449,14 @@ fn every_fault_is_noticed() {
         LastStateWord,
         LastRecordWord,
         RowsExchanged,
+        ColumnsExchanged,
+        RecordFactor256,
+        RowsWordTwice,
+        RecordUnpacked,
         WordPastRecord,
+        LastWordOfUnpackedRecord,
+        UnpackedRoomAsked,
+        RecordOneShortTaken,
         RecordOnRefusal,
         MatrixOnShortRecord,
         KeyOnShortRecord,

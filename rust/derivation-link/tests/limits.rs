@@ -37,7 +37,7 @@ const ACCEPTED: Call = Call {
     c: 1,
     settings: Settings::USUAL,
     matrix: 36,
-    record: 12,
+    record: 6,
 };
 
 /// The accepted call with another T, R and C, and buffers that fit exactly.
@@ -47,7 +47,7 @@ fn fitting(t: u64, r: u64, c: u64) -> Call {
         r,
         c,
         matrix: (12 * r * c) as usize,
-        record: (r * t * (2 + 2 * c)) as usize,
+        record: (r * t * (1 + c)) as usize,
         ..ACCEPTED
     }
 }
@@ -160,11 +160,12 @@ fn the_smallest_matrix_has_36_words() {
 }
 
 #[test]
-fn the_smallest_record_has_12_words() {
-    for record in [0, 1, 4, 11] {
+fn the_smallest_record_has_6_words() {
+    for record in 0..6 {
         assert_eq!(changed(|call| call.record = record), [8, 0, 0, 0]);
     }
-    for record in [13, 16, 1000] {
+    // Before request #108 it took 12.
+    for record in [7, 11, 12, 13, 1000] {
         assert_eq!(changed(|call| call.record = record), [0; 4]);
     }
 }
@@ -228,6 +229,8 @@ fn time_costs() {
         assert_fits_exactly(fitting(t, 3, 1));
     }
     assert_fits_exactly(fitting(0, 40, 7));
+    // 65,536 record words, which are none if cut to 16 bits.
+    assert_fits_exactly(fitting(2, 16_384, 1));
     for t in [
         256,
         1 << 16,
@@ -362,7 +365,7 @@ fn make_hold(call: &mut Call, number: u32, high: bool) {
         13 => call.settings.rho = pick(0, 13),
         14 => call.settings.omega = pick(0, 12),
         7 => call.matrix = pick(0, 35) as usize,
-        _ => call.record = pick(0, 11) as usize,
+        _ => call.record = pick(0, 5) as usize,
     }
 }
 

@@ -59,13 +59,13 @@ fn recorded_derivations() {
 
 #[test]
 fn recorded_derivations_whose_matrix_and_record_are_listed() {
-    assert!(run_lines(is_listed_in_full) >= 12);
+    assert!(run_lines(is_listed_in_full) >= 50);
 }
 
 #[test]
 fn recorded_derivations_with_a_short_record() {
     let wanted = |case: &Case| is_recorded(case) && has_a_short_record(case);
-    assert!(run_lines(wanted) >= 15);
+    assert!(run_lines(wanted) >= 60);
 }
 
 /// Three lines derive; two are refused for their matrices, and three for their records. All are lent 400 MB.
