@@ -2,8 +2,8 @@
  * Lyra2 key derivation: the C interface of the proved library (C99, C++11; link libderivation_export.a, which is
  * installed as liblyra2.a).
  *
- * Answer        Every call returns LYRA2_ACCEPTED or the number of a refusal. Of several that apply it is the first in
- *               the call's order, which enum lyra2_refusal gives.
+ * Answer        Every call but lyra2_record_pair, which refuses nothing, returns LYRA2_ACCEPTED or the number of a
+ *               refusal. Of several that apply it is the first in the call's order, which enum lyra2_refusal gives.
  * Memory        The caller lends all of it. There is no heap and no global state, nothing to set up, nothing to free.
  * Written       Accepted: what the declaration says, and nothing else. Refused: the answer's fields, which are `same`,
  *               the counts, the state, `row1`, a line's values and its length, become 0; nothing else that is lent is
@@ -100,11 +100,13 @@ extern "C" {
 #define LYRA2_ROUNDS 2
 
 /*
- * The words of the used matrix and of the used record, which are the least to lend. Within the limits they are at most
- * 50,331,648 and 2,147,450,880; outside the limits the products may overflow and mean nothing.
+ * The words of the used matrix and of the used record, which are the least to lend, and those of one visit in the
+ * record. Within the limits they are at most 50,331,648, 1,073,725,440 and 257; outside the limits the products may
+ * overflow and mean nothing.
  */
 #define LYRA2_MATRIX_WORDS(rows, columns) (UINT64_C(1) * LYRA2_CELL_WORDS * (rows) * (columns))
-#define LYRA2_RECORD_WORDS(time, rows, columns) (UINT64_C(1) * (rows) * (time) * (UINT64_C(2) * (columns) + 2))
+#define LYRA2_VISIT_WORDS(columns) (UINT64_C(1) * (columns) + 1)
+#define LYRA2_RECORD_WORDS(time, rows, columns) (UINT64_C(1) * (rows) * (time) * LYRA2_VISIT_WORDS(columns))
 
 /*
  * The refusals. A call tests its own in this order, which is not the order of the numbers:
@@ -173,9 +175,9 @@ LYRA2_ANSWER uint32_t lyra2_derive(
     uint64_t counts[LYRA2_COUNTS]);
 
 /*
- * The same key, with a record of the visits: row0, row1, and for each column col0 and col1. Writes the key, the used
- * matrix as the last visit leaves it, the used record, the state after that visit, and the counts. Where time is 0,
- * matrix and state are those after Setup.
+ * The same key, with a record of the visits: for each a word row0 + 65536 * row1, then a word col0 + 65536 * col1 for
+ * each column. Writes the key, the used matrix as the last visit leaves it, the used record, the state after that visit,
+ * and the counts. Where time is 0, matrix and state are those after Setup, and the used record is empty.
  */
 LYRA2_ANSWER uint32_t lyra2_derive_recorded(
     const uint8_t *password, size_t password_len,
@@ -186,6 +188,14 @@ LYRA2_ANSWER uint32_t lyra2_derive_recorded(
     uint64_t *record, size_t record_words,
     uint64_t state[LYRA2_STATE_WORDS],
     uint64_t counts[LYRA2_COUNTS]);
+
+/*
+ * Takes a word of the record apart. Visit k, counted from 0, starts at word k * LYRA2_VISIT_WORDS(columns): there are
+ * row0 and row1, and 1 + c words further on are col0 and col1 of column c. Any word is taken, so there is no refusal and
+ * nothing to return. Writes the two numbers, word % 65536 and word / 65536, which leave out no bit of the word: of one
+ * that no derivation writes they may be no row and no column. They are as secret as the record.
+ */
+void lyra2_record_pair(uint64_t word, uint64_t numbers[2]);
 
 /*
  * Tells whether the stored bytes are the key of their length: *same becomes 1 or 0. Writes the used matrix too, which
