@@ -112,6 +112,26 @@
 //! # Ok::<(), Box<dyn std::error::Error>>(())
 //! ```
 //!
+//! # A record
+//!
+//! [`visits`] reads a record through the library's decoder: the rows of each visit, and what it picked in each column.
+//!
+//! ```
+//! use lyra2::{derive_recorded, visits, Parameters};
+//!
+//! let parameters = Parameters { time: 2, rows: 8, columns: 4 };
+//! let (mut matrix, mut record) = (parameters.matrix()?, parameters.record()?);
+//! derive_recorded(b"password", b"saltsalt", parameters, &mut [0; 32], &mut matrix, &mut record)?;
+//!
+//! assert_eq!(visits(&record, 4).len(), 8 * 2);
+//! for visit in visits(&record, 4) {
+//!     let [row0, row1] = visit.rows();
+//!     assert!(row0 < 8 && row1 < 8);
+//!     assert!(visit.columns().all(|[col0, col1]| col0 < 4 && col1 < 4));
+//! }
+//! # Ok::<(), Box<dyn std::error::Error>>(())
+//! ```
+//!
 //! # A refusal
 //!
 //! The checks run in the order that an operation's documentation gives, and the first that applies is returned.
@@ -136,6 +156,7 @@
 mod line;
 mod operations;
 mod parameters;
+mod record;
 mod refusal;
 
 pub use line::{read_line, write_line, Line, KEY_MAX, LINE_MAX, SALT_MAX};
@@ -147,4 +168,5 @@ pub use parameters::{
     Lengths, Mixer, Parameters, Settings, CELL_WORDS, COLUMNS, KEY_LENGTHS, PASSWORD_LENGTHS,
     ROTATIONS, ROUNDS, ROWS, SALT_LENGTHS, TIME_COSTS, USUAL_MIXER, USUAL_ROTATION, USUAL_ROUNDS,
 };
+pub use record::{record_pair, visits, Visit};
 pub use refusal::Refusal;

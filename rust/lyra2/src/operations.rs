@@ -88,7 +88,8 @@ pub fn derive(
 }
 
 /// The recorded derivation: the same key; keeps the end matrix, and fills the used record with the rows and columns
-/// of each visit. With T = 0 there is no visit and no used record, so an empty one is enough.
+/// of each visit, two in a word: row0 + 65,536·row1, then col0 + 65,536·col1 for each column. [`visits`](crate::visits())
+/// gives them back. With T = 0 there is no visit and no used record, so an empty one is enough.
 ///
 /// Words of the matrix and the record past the used ones keep their contents. Refusals, in the order of the checks: 1, 2, 3, 10,
 /// 4, 5, 6, 13, 14, 7, 8.
@@ -97,13 +98,13 @@ pub fn derive(
 /// use lyra2::{derive_recorded, Parameters};
 ///
 /// let parameters = Parameters { time: 1, rows: 3, columns: 1 };
-/// let (mut key, mut matrix, mut record) = ([0; 32], [0; 36], [0; 12]);
+/// let (mut key, mut matrix, mut record) = ([0; 32], [0; 36], [0; 6]);
 /// let recorded = derive_recorded(b"", b"saltsalt", parameters, &mut key, &mut matrix, &mut record)?;
 ///
-/// // Each of the three visits wrote row0, row1 and, for the only column, col0 and col1.
-/// for visit in record.chunks(4) {
-///     assert!(visit[0] < 3 && visit[1] < 3);
-///     assert_eq!(visit[2..], [0, 0]);
+/// // Each of the three visits wrote a word of its rows and, for the only column, one of col0 and col1.
+/// for visit in record.chunks(2) {
+///     assert!(visit[0] % 65_536 < 3 && visit[0] / 65_536 < 3);
+///     assert_eq!(visit[1], 0);
 /// }
 /// assert_eq!(recorded.counts.reduced, 6);
 /// # Ok::<(), lyra2::Refusal>(())

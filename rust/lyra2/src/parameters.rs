@@ -51,9 +51,11 @@ impl Parameters {
         cells.checked_mul(CELL_WORDS)
     }
 
-    /// Words of the used record, R·T·(2+2·C); None if that number has no room in a `usize`.
+    /// Words of the used record, R·T·(1+C); None if that number has no room in a `usize`.
+    ///
+    /// [`visits`](crate::visits()) reads them.
     pub fn record_words(self) -> Option<usize> {
-        let row_words = self.rows.checked_mul(self.time)?.checked_mul(2)?;
+        let row_words = self.rows.checked_mul(self.time)?;
         let column_words = row_words.checked_mul(self.columns)?;
         row_words.checked_add(column_words)
     }

@@ -91,7 +91,7 @@ impl fmt::Display for Refusal {
                 return f.write_str("the matrix must have at least 12*R*C words");
             }
             Refusal::RecordWords => {
-                return f.write_str("the record must have at least R*T*(2+2*C) words");
+                return f.write_str("the record must have at least R*T*(1+C) words");
             }
             Refusal::WalkRow => return f.write_str("row0 must be 3 to R-1"),
             Refusal::SaltTooLong => {

@@ -82,11 +82,11 @@ fn with_settings(
         rotation,
         mixer,
     };
-    let (mut key, mut matrix, mut record) = ([7; 32], [7; 36], [7; 12]);
+    let (mut key, mut matrix, mut record) = ([7; 32], [7; 36], [7; 6]);
     let (password, salt) = (b"", b"saltsalt");
     let recorded = derive_recorded(password, salt, settings, &mut key, &mut matrix, &mut record);
     if recorded.is_err() {
-        assert_eq!((key, matrix, record), ([7; 32], [7; 36], [7; 12]));
+        assert_eq!((key, matrix, record), ([7; 32], [7; 36], [7; 6]));
     }
     let mut matrix = [7; 36];
     let checked = check(password, salt, settings, &key, &mut matrix);
@@ -279,7 +279,7 @@ fn sizes_of_any_numbers() {
                 columns,
             };
             let [t, r, c] = [time, rows, columns].map(|number| number as u128);
-            let due = [(r * c).checked_mul(12), (r * t).checked_mul(2 + 2 * c)].map(narrow);
+            let due = [(r * c).checked_mul(12), (r * t).checked_mul(1 + c)].map(narrow);
             let found = [parameters.matrix_words(), parameters.record_words()];
             assert_eq!(found, due, "{parameters:?}");
             sizes += found.len();
@@ -333,7 +333,7 @@ fn refusals_are_numbered_from_1_to_14_and_each_has_its_sentence() {
         "R must be 3 to 16384",
         "C must be 1 to 256",
         "12*R*C words",
-        "R*T*(2+2*C) words",
+        "R*T*(1+C) words",
         "3 to R-1",
         "at most 64 bytes",
         "$lyra2$t=T,r=R,c=C$SALT$KEY",
