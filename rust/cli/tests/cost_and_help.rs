@@ -47,7 +47,7 @@ fn the_lines_of_a_cost() {
         "reduced calls: 3000",
         "rounds: 3024",
         "matrix bytes: 96000",
-        "record bytes: 35200",
+        "record bytes: 17600",
     ];
     assert_eq!(lines, due);
     assert_eq!(output.lines().count(), 6);

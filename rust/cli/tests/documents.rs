@@ -143,18 +143,31 @@ fn the_example_of_an_end_state_file() {
     for (offset, part) in shown {
         assert_eq!(bytes[offset..offset + part.len()], part, "{offset:x}");
     }
-    // As the page says how a file of version 1 is made, whose checksum a program of that version printed.
-    let mut old = [&bytes[..40], &bytes[64..bytes.len() - 8]].concat();
-    old[8] = 1;
-    let old = summed(old);
-    assert_eq!(old, EndState::read(&bytes).write_version_1());
-    let sum: Vec<u8> = old.iter().rev().take(8).copied().collect();
-    let length = old.len();
-    let due = format!(
-        "the first one had {length} bytes and the checksum `{}`",
-        hex(&sum)
-    );
-    assert!(sentences.contains(&due), "{due}");
+    let [one, two] = old_versions(&bytes);
+    for (old, start) in [(two, "the first one"), (one, "as one of version 1 it")] {
+        let sum: Vec<u8> = old.iter().rev().take(8).copied().collect();
+        let (length, sum) = (old.len(), hex(&sum));
+        let due = format!("{start} had {length} bytes and the checksum `{sum}`");
+        assert!(sentences.contains(&due), "{due}");
+    }
+}
+
+/// The example as files of versions 1 and 2, made as the page says, whose checksums programs of those versions printed.
+fn old_versions(bytes: &[u8]) -> [Vec<u8>; 2] {
+    // Three visits of two words, and the checksum.
+    let (start, record) = bytes[..bytes.len() - 8].split_at(bytes.len() - 8 - 3 * 2 * 8);
+    let mut two = start.to_vec();
+    two[8] = 2;
+    for word in record.chunks(8) {
+        // The quotient of a division by 65,536 are the bytes after the first two.
+        two.extend([&word[..2], &[0; 6], &word[2..], &[0; 2]].concat());
+    }
+    let mut one = [&two[..40], &two[64..]].concat();
+    one[8] = 1;
+    let end = EndState::read(bytes);
+    let files = [one, two].map(summed);
+    assert_eq!(files, [1, 2].map(|version| end.write_version(version)));
+    files
 }
 
 /// The commands of a document that give the program this password.

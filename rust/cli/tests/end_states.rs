@@ -2,7 +2,7 @@
 
 mod common;
 
-use common::end_state::{mixer_number, summed, EndState};
+use common::end_state::{mixer_number, summed, unpacked, EndState};
 use common::{hex, limited, lyra2, words, Run, TemporaryFile};
 use lyra2_reference::vectors::random::Random;
 use lyra2_reference::vectors::write::mixer_name;
@@ -13,6 +13,8 @@ const T: u64 = 2;
 const R: u64 = 4;
 const C: u64 = 3;
 const KEY_LENGTH: u64 = 20;
+/// The versions of the file.
+const VERSIONS: [u64; 3] = [1, 2, 3];
 
 fn trial(password: &[u8]) -> TemporaryFile {
     trial_of(T, R, C, "", password)
@@ -73,7 +75,7 @@ fn due_of(t: u64, r: u64, c: u64, settings: Settings, password: &[u8]) -> EndSta
         counts: [counts.full, counts.reduced, counts.rounds],
         state: recorded.state.to_vec(),
         matrix,
-        record,
+        record: unpacked(&record),
     }
 }
 
@@ -83,8 +85,7 @@ fn compare(first: &TemporaryFile, second: &TemporaryFile) -> Run {
 
 /// Compares two end states, as files with fitting checksums.
 fn compared(first: &EndState, second: &EndState) -> Run {
-    let [first, second] = [first, second].map(|end| TemporaryFile::holding(&end.write()));
-    compare(&first, &second)
+    compared_as([3, 3], first, second)
 }
 
 /// The lines of a comparison of end states that differ.
@@ -148,59 +149,177 @@ fn trials_with_other_settings() {
     );
 }
 
-/// documents.rs holds the bytes of version 1 to those that were written then.
-#[test]
-fn a_file_of_version_1_is_equal_to_one_of_version_2() {
-    let mut end = due_of(1, 3, 1, Settings::USUAL, b"pass");
-    let old = end.write_version_1();
-    assert_eq!(end.write().len(), old.len() + 24);
-    let old = TemporaryFile::holding(&old);
-    let new = small_trial();
-    assert_eq!(compare(&old, &new).result(), "equal\n");
-    assert_eq!(compare(&new, &old).result(), "equal\n");
-    assert_eq!(compare(&old, &old).result(), "equal\n");
+/// Each version, with each.
+fn pairs_of_versions() -> impl Iterator<Item = [u64; 2]> {
+    VERSIONS
+        .into_iter()
+        .flat_map(|first| VERSIONS.map(|second| [first, second]))
+}
 
-    // Whatever differs is told as between two files of one version.
+/// Compares two end states, as files of these versions.
+fn compared_as([one, other]: [u64; 2], first: &EndState, second: &EndState) -> Run {
+    let files = [first.write_version(one), second.write_version(other)];
+    let [first, second] = files.map(|bytes| TemporaryFile::holding(&bytes));
+    compare(&first, &second)
+}
+
+/// documents.rs holds the bytes of the old versions to those that were written then.
+#[test]
+fn files_of_all_versions_are_equal() {
+    for [t, r, c] in [[0, R, C], [1, 3, 1], [T, R, C]] {
+        let end = due_of(t, r, c, Settings::USUAL, b"pass");
+        let lengths = VERSIONS.map(|version| end.write_version(version).len() as u64);
+        let two = 8 * (12 + 16 + 12 * r * c + r * t * (2 + 2 * c) + 1);
+        assert_eq!(lengths, [two - 24, two, two - 8 * r * t * (1 + c)]);
+        for versions in pairs_of_versions() {
+            let run = compared_as(versions, &end, &end);
+            assert_eq!(run.result(), "equal\n", "{versions:?}");
+        }
+        let trial = trial_of(t, r, c, "", b"pass");
+        for version in VERSIONS {
+            let file = TemporaryFile::holding(&end.write_version(version));
+            assert_eq!(compare(&file, &trial).result(), "equal\n", "{version}");
+        }
+    }
+}
+
+/// Whatever differs is told as between two files of one version.
+#[test]
+fn headers_of_two_versions() {
+    let end = due_of(1, 3, 1, Settings::USUAL, b"pass");
     for (options, words) in [
         ("--rounds 2", "rho: 1 and 2"),
         ("--rotation 3", "omega: 2 and 3"),
         ("--mixer blamka", "mixer: plain and blamka"),
     ] {
-        let run = compare(&old, &trial_of(1, 3, 1, options, b"pass"));
-        let lines = differing(&run);
-        assert_eq!(lines[0], format!("different, first in the header: {words}"));
+        let other = trial_of(1, 3, 1, options, b"pass");
+        for version in VERSIONS {
+            let old = TemporaryFile::holding(&end.write_version(version));
+            let run = compare(&old, &other);
+            let lines = differing(&run);
+            assert_eq!(lines[0], format!("different, first in the header: {words}"));
+        }
     }
-    end.counts[2] += 1;
-    let other = TemporaryFile::holding(&end.write());
-    let words = format!("rounds: {} and {}", end.counts[2] - 1, end.counts[2]);
-    assert_eq!(
-        differing(&compare(&old, &other)),
-        one_place("header", &words)
-    );
-    end.counts[2] -= 1;
-    end.record[0] += 1;
-    let other = TemporaryFile::holding(&end.write_version_1());
-    let words = format!("visit 0, row0: {} and {}", end.record[0], end.record[0] - 1);
-    assert_eq!(
-        differing(&compare(&other, &new)),
-        one_place("record", &words)
-    );
+    let mut other = end.clone();
+    other.counts[2] += 1;
+    let words = format!("rounds: {} and {}", end.counts[2], other.counts[2]);
+    for versions in pairs_of_versions() {
+        let run = compared_as(versions, &end, &other);
+        assert_eq!(differing(&run), one_place("header", &words));
+    }
 }
 
-/// The version tells how long the header is, so the other one's number makes a file that is not in order, though its
-/// checksum fits.
 #[test]
-fn the_number_of_the_other_version() {
+fn picks_are_named_between_any_two_versions() {
+    let end = due(b"pass");
+    let visit = 5 * (2 + 2 * C as usize);
+    for (pick, name) in [
+        (0, "visit 5, row0"),
+        (1, "visit 5, row1"),
+        (6, "visit 5, column 2, col0"),
+        (7, "visit 5, column 2, col1"),
+    ] {
+        let mut other = end.clone();
+        other.record[visit + pick] += 5;
+        // What follows the first difference is not told.
+        other.record[visit + 8..].fill(7);
+        let [x, y] = [&end, &other].map(|end| end.record[visit + pick]);
+        let words = format!("{name}: {x} and {y}");
+        for versions in pairs_of_versions() {
+            let run = compared_as(versions, &end, &other);
+            assert_eq!(differing(&run), one_place("record", &words), "{versions:?}");
+        }
+    }
+}
+
+/// Every bit of a packed word counts: those above bit 31 make a second number that no derivation writes.
+#[test]
+fn stray_bits_of_a_packed_word() {
+    let end = due(b"pass");
+    for (place, name) in [(1, "row1"), (3, "column 0, col1")] {
+        for bit in [31, 32, 40, 63] {
+            let mut other = end.clone();
+            other.record[place] += 1 << (bit - 16);
+            let [x, y] = [&end, &other].map(|end| end.record[place]);
+            let words = format!("visit 0, {name}: {x} and {y}");
+            for version in VERSIONS {
+                let run = compared_as([version, 3], &end, &other);
+                assert_eq!(differing(&run), one_place("record", &words));
+                // An old file can say the same.
+                let run = compared_as([version, 3], &other, &other);
+                assert_eq!(run.result(), "equal\n");
+            }
+        }
+    }
+}
+
+/// A number of an old file that no packed word has room for is a difference, even where the sum that makes a word of it
+/// and its neighbour would give the word of the other file.
+#[test]
+fn numbers_of_old_files_that_no_packed_word_holds() {
+    for (place, names) in [
+        (0, ["row0", "row1"]),
+        (2, ["column 0, col0", "column 0, col1"]),
+    ] {
+        let mut end = due(b"pass");
+        end.record[place..place + 2].copy_from_slice(&[0, 1]);
+        for (numbers, at) in [
+            ([65_536, 0], 0),
+            ([65_536, 1], 0),
+            ([0, 1 + (1 << 48)], 1),
+            ([u64::MAX, u64::MAX], 0),
+            ([0, u64::MAX], 1),
+        ] {
+            let mut old = end.clone();
+            old.record[place..place + 2].copy_from_slice(&numbers);
+            let name = format!("visit 0, {}", names[at]);
+            let (old_number, number) = (numbers[at], at);
+            let due = format!("{name}: {old_number} and {number}");
+            let swapped = format!("{name}: {number} and {old_number}");
+            for version in [1, 2] {
+                let run = compared_as([version, 3], &old, &end);
+                assert_eq!(differing(&run), one_place("record", &due));
+                let run = compared_as([3, version], &end, &old);
+                assert_eq!(differing(&run), one_place("record", &swapped));
+                let run = compared_as([1, version], &old, &old);
+                assert_eq!(run.result(), "equal\n");
+            }
+        }
+    }
+}
+
+/// A file under the number of another version is not in order, though its checksum fits: the header or the record has
+/// another length.
+#[test]
+fn the_number_of_another_version() {
     let good = small_trial();
     let end = due_of(1, 3, 1, Settings::USUAL, b"pass");
-    for (file, version) in [(end.write(), 1), (end.write_version_1(), 2)] {
-        let mut body = file[..file.len() - 8].to_vec();
-        body[8] = version;
-        let line = fault(&summed(body), &good);
-        let is_known =
-            line.contains(" is due") || line.contains("er than the ") || line.contains("damaged");
-        assert!(is_known, "{line}");
+    let [one, two] = [1, 2].map(|version| end.write_version(version).len());
+    let [one, two] = [one, two]
+        .map(|length| format!("shorter than the {length} bytes that its header asks for"));
+    let key_length = "rho is 20 in its header; 1 to 12 is due";
+    let damaged = "damaged: its checksum is ";
+    for (version, number, words) in [
+        (1, 2, key_length),
+        (1, 3, key_length),
+        (2, 1, damaged),
+        (2, 3, damaged),
+        (3, 1, &one),
+        (3, 2, &two),
+    ] {
+        let line = fault(&renumbered(&end.write_version(version), number), &good);
+        assert!(line.starts_with(words), "{version} {number}: {line}");
     }
+    // Without visits there is no record, and so nothing in which versions 2 and 3 differ but the number.
+    let setup = due_of(0, 3, 1, Settings::USUAL, b"pass");
+    assert_eq!(renumbered(&setup.write(), 2), setup.write_version(2));
+}
+
+/// The file with another version's number, and a checksum that fits.
+fn renumbered(file: &[u8], version: u8) -> Vec<u8> {
+    let mut body = file[..file.len() - 8].to_vec();
+    body[8] = version;
+    summed(body)
 }
 
 #[test]
@@ -301,7 +420,7 @@ fn every_word_of_the_matrix_is_named() {
 }
 
 #[test]
-fn every_word_of_the_record_is_named() {
+fn every_number_of_the_record_is_named() {
     let end = due(b"pass");
     let mut place = 0;
     for visit in 0..R * T {
@@ -466,15 +585,15 @@ fn other_t_r_or_c() {
         assert_eq!(lines[3], "matrix: not compared, since T, R or C differ");
         assert_eq!(lines[4], "record: not compared, since T, R or C differ");
         // A damaged file is told even where nothing of it would be compared.
-        let mut damaged = other.write();
-        damaged.truncate(damaged.len() - 1);
-        let files = [end.write(), damaged].map(|bytes| TemporaryFile::holding(&bytes));
-        assert!(compare(&files[0], &files[1])
-            .failure()
-            .contains("shorter than the "));
-        assert!(compare(&files[1], &files[0])
-            .failure()
-            .contains("shorter than the "));
+        for version in [2, 3] {
+            let mut damaged = other.write_version(version);
+            damaged.truncate(damaged.len() - 1);
+            let files = [end.write(), damaged].map(|bytes| TemporaryFile::holding(&bytes));
+            for [one, other] in [[0, 1], [1, 0]] {
+                let line = compare(&files[one], &files[other]).failure();
+                assert!(line.contains("shorter than the "), "{line}");
+            }
+        }
     }
 }
 
@@ -511,9 +630,10 @@ fn faults_of_beginnings(bytes: &[u8], header: usize, good: &TemporaryFile) {
 #[test]
 fn files_cut_short_at_every_length() {
     let good = small_trial();
-    faults_of_beginnings(&good.bytes(), 96, &good);
     let end = due_of(1, 3, 1, Settings::USUAL, b"pass");
-    faults_of_beginnings(&end.write_version_1(), 72, &good);
+    for (version, header) in [(1, 72), (2, 96), (3, 96)] {
+        faults_of_beginnings(&end.write_version(version), header, &good);
+    }
 }
 
 #[test]
@@ -610,8 +730,9 @@ fn numbers_outside_their_limits() {
             "the key length is 1025 in its header; 1 to 1024 is due",
         ),
     ] {
-        assert_eq!(fault(&other.write(), &good), words);
-        assert_eq!(fault(&other.write_version_1(), &good), words);
+        for version in VERSIONS {
+            assert_eq!(fault(&other.write_version(version), &good), words);
+        }
     }
     let with = |rho: u64, omega: u64, mixer: u64| EndState {
         rho,
@@ -641,14 +762,17 @@ fn numbers_outside_their_limits() {
             "the mixer is 18446744073709551615 in its header; 0 for plain or 1 for blamka is due",
         ),
     ] {
-        assert_eq!(fault(&other.write(), &good), words);
+        for version in [2, 3] {
+            assert_eq!(fault(&other.write_version(version), &good), words);
+        }
     }
 }
 
 #[test]
 fn a_file_with_a_byte_too_many() {
-    let good = trial(b"pass");
-    for bytes in [good.bytes(), due(b"pass").write_version_1()] {
+    let (good, end) = (trial(b"pass"), due(b"pass"));
+    for version in VERSIONS {
+        let bytes = end.write_version(version);
         let words = format!(
             "longer than the {} bytes that its header asks for",
             bytes.len()
@@ -666,15 +790,17 @@ fn a_large_header_asks_for_no_memory() {
         c: 256,
         ..due(b"pass")
     };
-    let file = TemporaryFile::holding(&end.write());
-    let name = file.name();
-    let ended = limited(100_000, &format!("compare {name} {name}")).output();
-    let ended = ended.expect("a shell");
-    let bytes = 8 * (12 + 16 + 12 * 16_384 * 256 + 16_384 * 255 * 514 + 1u64);
-    let words = format!("shorter than the {bytes} bytes that its header asks for");
-    let line = format!("lyra2 compare: {name:?}: {words}\n");
-    assert_eq!(String::from_utf8_lossy(&ended.stderr), line);
-    assert_eq!(ended.status.code(), Some(2));
+    for (version, header, visit) in [(1, 9, 514), (2, 12, 514), (3, 12, 257)] {
+        let file = TemporaryFile::holding(&end.write_version(version));
+        let name = file.name();
+        let ended = limited(100_000, &format!("compare {name} {name}")).output();
+        let ended = ended.expect("a shell");
+        let bytes = 8 * (header + 16 + 12 * 16_384 * 256 + 16_384 * 255 * visit + 1u64);
+        let words = format!("shorter than the {bytes} bytes that its header asks for");
+        let line = format!("lyra2 compare: {name:?}: {words}\n");
+        assert_eq!(String::from_utf8_lossy(&ended.stderr), line);
+        assert_eq!(ended.status.code(), Some(2));
+    }
 }
 
 #[test]
@@ -686,10 +812,10 @@ fn other_files() {
     assert_eq!(fault(b"", &good), empty);
     let line = lyra2(&["compare", "/dev/zero", good.name()], b"").failure();
     assert_eq!(line, format!("lyra2 compare: \"/dev/zero\": {other}"));
-    for version in [0, 3, 255] {
+    for version in [0, 4, 255] {
         let mut unknown = good.bytes();
         unknown[8] = version;
-        let words = format!("version {version}; versions 1 and 2 are read");
+        let words = format!("version {version}; versions 1 to 3 are read");
         assert_eq!(fault(&unknown, &good), words);
     }
 }

@@ -1,6 +1,6 @@
 //! The vectors file put to the program, wherever the command line can ask the question.
 //!
-//! The program lends buffers that fit, so it is never refused with 7, 8 or 12; those lines and the four that lend
+//! The program lends buffers that fit, so it is never refused with 7, 8 or 12; those lines and the eight that lend
 //! 400 MB are left out. It writes no line but of a key that it has derived.
 
 mod common;
@@ -176,10 +176,11 @@ fn assert_end_state(case: &Case, found: &EndState) {
     );
     assert_eq!(found.state, state, "case {}", case.number);
     assert_eq!(found.counts, listed(counts), "case {}", case.number);
-    let sums = [&found.matrix, &found.record].map(|words| checksum::of_words(words));
+    let found_record = found.packed_record();
+    let sums = [&found.matrix, &found_record].map(|words| checksum::of_words(words));
     assert_eq!(sums, [*matrix_sum, *record_sum], "case {}", case.number);
     if let Some((matrix, record)) = in_full {
-        assert_eq!((&found.matrix, &found.record), (matrix, record));
+        assert_eq!((&found.matrix, &found_record), (matrix, record));
     }
 }
 

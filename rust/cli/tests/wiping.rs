@@ -20,7 +20,7 @@ const MIXERS: [Mixer; 2] = [Mixer::Plain, Mixer::BlaMka];
 const PASSWORD: &[u8] = b"a password to search for";
 /// Words of the matrix and of the record with T = 1, R = 16 and C = 4.
 const MATRIX_WORDS: usize = 12 * 16 * 4;
-const RECORD_WORDS: usize = 16 * (2 + 2 * 4);
+const RECORD_WORDS: usize = 16 * (1 + 4);
 /// What a pipe holds on Linux.
 const PIPE_BYTES: usize = 1 << 16;
 /// How long the program may take to come to its output.

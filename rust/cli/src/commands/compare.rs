@@ -13,7 +13,9 @@ use std::path::PathBuf;
     "Printed is equal, or the first place where two end-state files part and then a line for each part of them: the \
      header, the state, the matrix and the record. A part that differs is told by its first difference, with the value of \
      FILE1 before that of FILE2. In the header rho is the rounds of a reduced call, omega the rotation, and the mixer \
-     plain or blamka; the version of the file is no part of what is compared. Visits, rows, columns and words are counted from 0.",
+     plain or blamka. Visits, rows, columns and words are counted from 0.",
+    "Files of versions 1 to 3 are compared by what they say, each with any other: neither the version is a part of that \
+     nor the form of the record, which since version 3 has two numbers in a word.",
     "The first place is first in time: the header, then the record, which the walk writes on its way, then the state and \
      the matrix, which it leaves. Where T, R or C differ, matrix and record are not compared. Where T is 0 both records are \
      empty, and equal.",

@@ -15,8 +15,8 @@ use std::path::PathBuf;
 /// Run a recorded derivation and write its end state to a file
 #[derive(Args)]
 #[command(after_help = help::paragraphs(&[
-    "The state after the last visit, the used matrix and the used record are written to FILE, and the file's length and \
-     checksum are printed. With T = 0 there is no visit: the state is that after Setup, and the record is empty. `lyra2 \
+    "The state after the last visit, the used matrix and the used record are written to FILE, in version 3 of its form, and \
+     the file's length and checksum are printed. With T = 0 there is no visit: the state is that after Setup, and the record is empty. `lyra2 \
      compare` compares two such files; docs/END-STATES.md describes them.",
     "The file says T, R, C, the rounds of a reduced call, the rotation and the mixer. Both sides of a trial agree on all \
      six beforehand.",

@@ -25,7 +25,7 @@ pub struct Comparison {
     record: Part,
 }
 
-/// A place in a part, counted in words, and what the two files have there.
+/// A place in a part, counted in numbers, and what the two files have there. A word is a number, but in a packed record.
 struct Difference {
     place: u64,
     found: [u64; 2],
@@ -39,11 +39,11 @@ pub fn compare(first: &Path, second: &Path) -> Result<Comparison, Failure> {
     let (header, mut first) = Reader::open(first, &bar)?;
     let (other, mut second) = Reader::open(second, &bar)?;
     let files = &mut [&mut first, &mut second];
-    let state = first_difference(files, STATE_WORDS as u64)?;
+    let state = first_difference(files, STATE_WORDS as u64, Reader::words::<1>)?;
     let columns = header.settings.parameters.columns as u64;
     let [matrix, record] = if header.settings.parameters == other.settings.parameters {
-        let matrix = first_difference(files, header.matrix_words())?;
-        let record = first_difference(files, header.record_words())?;
+        let matrix = first_difference(files, header.matrix_words(), Reader::words::<1>)?;
+        let record = first_difference(files, header.record_pairs(), Reader::pair)?;
         [
             Part::of(matrix, |at| {
                 format!("{}: {}", cell_place(at.place, columns), at.hexadecimal())
@@ -69,16 +69,21 @@ pub fn compare(first: &Path, second: &Path) -> Result<Comparison, Failure> {
     })
 }
 
-/// Reads so many words of both files and returns where they first differ.
-fn first_difference(
+/// Reads so many groups of numbers of both files and returns where they first differ.
+fn first_difference<const NUMBERS: usize>(
     [first, second]: &mut [&mut Reader; 2],
-    words: u64,
+    groups: u64,
+    next: impl Fn(&mut Reader) -> Result<[u64; NUMBERS], Failure>,
 ) -> Result<Option<Difference>, Failure> {
     let mut difference = None;
-    for place in 0..words {
-        let found = [first.word()?, second.word()?];
-        if found[0] != found[1] && difference.is_none() {
-            difference = Some(Difference { place, found });
+    for group in 0..groups {
+        let found = [next(first)?, next(second)?];
+        let differing = (0..NUMBERS).find(|&at| found[0][at] != found[1][at]);
+        if let (None, Some(at)) = (&difference, differing) {
+            difference = Some(Difference {
+                place: group * NUMBERS as u64 + at as u64,
+                found: found.map(|numbers| numbers[at]),
+            });
         }
     }
     Ok(difference)
@@ -86,8 +91,11 @@ fn first_difference(
 
 /// Reads matrix and record without a look at them.
 fn skip(file: &mut Reader, header: &Header) -> Result<(), Failure> {
-    for _ in 0..header.matrix_words() + header.record_words() {
-        file.word()?;
+    for _ in 0..header.matrix_words() {
+        file.words::<1>()?;
+    }
+    for _ in 0..header.record_pairs() {
+        file.pair()?;
     }
     Ok(())
 }
@@ -109,13 +117,13 @@ fn cell_place(place: u64, columns: u64) -> String {
     format!("row {row}, column {column}, word {word}")
 }
 
-/// The words for a word of the record.
+/// The words for a number of the record.
 fn visit_place(place: u64, columns: u64) -> String {
-    let visit_words = 2 + 2 * columns;
-    let (visit, word) = (place / visit_words, place % visit_words);
-    match word {
-        0 | 1 => format!("visit {visit}, row{word}"),
-        _ => format!("visit {visit}, column {}, col{}", word / 2 - 1, word % 2),
+    let picks = 2 + 2 * columns;
+    let (visit, pick) = (place / picks, place % picks);
+    match pick {
+        0 | 1 => format!("visit {visit}, row{pick}"),
+        _ => format!("visit {visit}, column {}, col{}", pick / 2 - 1, pick % 2),
     }
 }
 

@@ -37,20 +37,24 @@ const OF_VERSION_1: [u64; 3] = [
     mixer::number(Mixer::Plain),
 ];
 
-/// A form of the file.
+/// A form of the file. All of them are read.
 #[derive(Clone, Copy)]
 enum Version {
-    /// It is read and no longer written.
     One = 1,
     Two = 2,
+    Three = 3,
 }
 
 impl Version {
+    /// The one that is written.
+    const WRITTEN: Version = Version::Three;
+
     fn of_number(number: u64) -> Result<Version, String> {
         match number {
             1 => Ok(Version::One),
             2 => Ok(Version::Two),
-            _ => Err(format!("version {number}; versions 1 and 2 are read")),
+            3 => Ok(Version::Three),
+            _ => Err(format!("version {number}; versions 1 to 3 are read")),
         }
     }
 
@@ -58,7 +62,15 @@ impl Version {
     fn header_words(self) -> usize {
         match self {
             Version::One => 2 + FIELDS.len() - OF_VERSION_1.len(),
-            Version::Two => 2 + FIELDS.len(),
+            Version::Two | Version::Three => 2 + FIELDS.len(),
+        }
+    }
+
+    /// Whether a word of the record holds two numbers, and not one.
+    fn is_packed(self) -> bool {
+        match self {
+            Version::One | Version::Two => false,
+            Version::Three => true,
         }
     }
 }
@@ -139,8 +151,8 @@ impl Header {
             .unwrap_or(usize::MAX) as u64
     }
 
-    /// Words of the used record.
-    fn record_words(&self) -> u64 {
+    /// Pairs of numbers in the record: row0 and row1, or col0 and col1. Each is a word of the used one.
+    fn record_pairs(&self) -> u64 {
         self.settings
             .parameters
             .record_words()
@@ -149,13 +161,17 @@ impl Header {
 
     /// Bytes of the whole file that is written for it.
     pub fn file_bytes(&self) -> u64 {
-        self.bytes_of(Version::Two)
+        self.bytes_of(Version::WRITTEN)
     }
 
     /// Bytes of a whole file of this version: header, state, matrix, record and checksum.
     fn bytes_of(&self, version: Version) -> u64 {
         let fixed = (version.header_words() + STATE_WORDS + 1) as u64;
-        8 * (fixed + self.matrix_words() + self.record_words())
+        let record = match version.is_packed() {
+            true => self.record_pairs(),
+            false => 2 * self.record_pairs(),
+        };
+        8 * (fixed + self.matrix_words() + record)
     }
 }
 

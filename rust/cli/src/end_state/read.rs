@@ -44,7 +44,7 @@ impl Reader {
         let [time, rows, columns] = self.words()?;
         let [rho, omega, mixer] = match version {
             Version::One => OF_VERSION_1,
-            Version::Two => self.words()?,
+            Version::Two | Version::Three => self.words()?,
         };
         let [key_length, full, reduced, rounds] = self.words()?;
         let fields = [
@@ -53,7 +53,8 @@ impl Reader {
         Header::from_fields(fields).map_err(|what| self.failure(what))
     }
 
-    fn words<const COUNT: usize>(&mut self) -> Result<[u64; COUNT], Failure> {
+    /// The next words.
+    pub fn words<const COUNT: usize>(&mut self) -> Result<[u64; COUNT], Failure> {
         let mut words = [0; COUNT];
         for word in &mut words {
             *word = self.word()?;
@@ -61,11 +62,19 @@ impl Reader {
         Ok(words)
     }
 
-    /// The next word.
-    pub fn word(&mut self) -> Result<u64, Failure> {
+    fn word(&mut self) -> Result<u64, Failure> {
         let bytes = self.bytes()?;
         self.sum.add(bytes);
         Ok(u64::from_le_bytes(bytes))
+    }
+
+    /// The next two numbers of the record. A word of an old file may hold a number that no packed word has room for, so
+    /// files of all versions are read as numbers.
+    pub fn pair(&mut self) -> Result<[u64; 2], Failure> {
+        if self.version.is_some_and(Version::is_packed) {
+            return self.word().map(lyra2::record_pair);
+        }
+        self.words()
     }
 
     /// Reads the checksum, which has to be right and the last of the file.

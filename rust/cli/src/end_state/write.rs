@@ -14,7 +14,7 @@ pub fn write(
 ) -> io::Result<u64> {
     let mut file = BufWriter::new(file);
     let mut sum = Checksum::new();
-    let start = [MAGIC, Version::Two as u64];
+    let start = [MAGIC, Version::WRITTEN as u64];
     for part in [&start, &header.fields()[..], state, matrix, record] {
         for word in part {
             let bytes = word.to_le_bytes();

@@ -1,7 +1,7 @@
 //! A second reader and writer of end-state files, made from docs/END-STATES.md.
 
 use lyra2_reference::vectors::checksum;
-use lyra2_reference::Mixer;
+use lyra2_reference::{record, Mixer};
 
 /// The parts of an end-state file.
 #[derive(Clone, Debug, PartialEq, Eq)]
@@ -17,11 +17,12 @@ pub struct EndState {
     pub counts: [u64; 3],
     pub state: Vec<u64>,
     pub matrix: Vec<u64>,
+    /// row0, row1, then col0 and col1 for each column, of each visit, in whatever form a file has them.
     pub record: Vec<u64>,
 }
 
 impl EndState {
-    /// The parts of a file of version 2 that has to be in order.
+    /// The parts of a file of version 3 that has to be in order.
     pub fn read(file: &[u8]) -> EndState {
         let (body, sum) = file.split_at(file.len() - 8);
         assert_eq!(&body[..8], b"LYRA2END");
@@ -35,8 +36,8 @@ impl EndState {
             part
         };
         let header = take(11);
-        let [2, t, r, c, rho, omega, mixer, key_length, full, reduced, rounds] = header[..] else {
-            panic!("version 2 is due: {header:?}");
+        let [3, t, r, c, rho, omega, mixer, key_length, full, reduced, rounds] = header[..] else {
+            panic!("version 3 is due: {header:?}");
         };
         let end_state = EndState {
             t,
@@ -49,41 +50,58 @@ impl EndState {
             counts: [full, reduced, rounds],
             state: take(16),
             matrix: take(12 * r * c),
-            record: take(r * t * (2 + 2 * c)),
+            record: unpacked(&take(r * t * (1 + c))),
         };
         assert_eq!(words.next(), None, "the file is too long");
         end_state
     }
 
-    /// The file of version 2, with a checksum that fits.
+    /// The file of version 3, with a checksum that fits.
     pub fn write(&self) -> Vec<u8> {
-        let EndState { t, r, c, .. } = *self;
-        let EndState {
-            rho, omega, mixer, ..
-        } = *self;
-        self.write_behind(&[2, t, r, c, rho, omega, mixer])
+        self.write_version(3)
     }
 
-    /// The file of version 1, which has no place for rho, omega and mixer.
-    pub fn write_version_1(&self) -> Vec<u8> {
-        let EndState { t, r, c, .. } = *self;
-        assert_eq!((self.rho, self.omega, self.mixer), (1, 2, 0));
-        self.write_behind(&[1, t, r, c])
-    }
-
-    /// The file whose header has these words before the key length.
-    fn write_behind(&self, words: &[u64]) -> Vec<u8> {
+    /// The file of any version.
+    pub fn write_version(&self, version: u64) -> Vec<u8> {
+        let settings = [self.rho, self.omega, self.mixer];
+        let settings = match version {
+            1 => {
+                assert_eq!(settings, [1, 2, 0], "version 1 has no place for others");
+                &[]
+            }
+            _ => &settings[..],
+        };
+        let record = match version {
+            1 | 2 => self.record.clone(),
+            _ => self.packed_record(),
+        };
         let parts = [
-            words,
+            &[version, self.t, self.r, self.c],
+            settings,
             &[self.key_length],
             &self.counts,
             &self.state,
             &self.matrix,
-            &self.record,
+            &record,
         ];
         let words = parts.concat().into_iter().flat_map(u64::to_le_bytes);
         summed(b"LYRA2END".iter().copied().chain(words).collect())
     }
+
+    /// The record with two numbers in a word.
+    pub fn packed_record(&self) -> Vec<u64> {
+        let words = self.record.chunks_exact(2).map(|pair| {
+            let word = record::word([pair[0], pair[1]]);
+            assert_eq!(record::numbers(word), pair, "no word holds the two");
+            word
+        });
+        words.collect()
+    }
+}
+
+/// The numbers of a record that has two in a word.
+pub fn unpacked(words: &[u64]) -> Vec<u64> {
+    words.iter().copied().flat_map(record::numbers).collect()
 }
 
 /// The number of a mixer.
