@@ -1,14 +1,14 @@
 #!/usr/bin/env bash
-# The C interface from C: what the archive exports and needs, the header's limits, the refusals in pairs, login lines, the
-# stack, what is left on it, and the vectors; and wrong headers, wrong vectors and faulty libraries, which these tests have
-# to find.
+# The C interface from C: what the archive exports and needs, the header's limits, the refusals in pairs, visit records, login
+# lines, the stack, what is left on it, and the vectors; and wrong headers, wrong vectors and faulty libraries, which these
+# tests have to find.
 set -eu
 cd "$(dirname "$0")/.."
 . tests/c/build.sh
 
-# ---- the archive: seven functions, nothing needed from elsewhere, no section to write in
+# ---- the archive: eight functions, nothing needed from elsewhere, no section to write in
 names=$(nm -g --defined-only "$library" 2>"$work/log" | sed -n 's/^[0-9a-f]* //p' | sort | tr '\n' ' ')
-same 'exported names' "$(printf 'T lyra2_%s ' check cost derive derive_recorded line_read line_write walk)" "$names"
+same 'exported names' "$(printf 'T lyra2_%s ' check cost derive derive_recorded line_read line_write record_pair walk)" "$names"
 nm -u "$library" >"$work/undefined" 2>"$work/log"
 same 'names from elsewhere' '' "$(sed -n 's/^ *[Uwv] //p' "$work/undefined")"
 readelf -SW "$library" >"$work/sections"
@@ -16,9 +16,10 @@ grep -q ' AX ' "$work/sections" || { echo 'readelf shows no code'; exit 1; }
 same 'sections to write in' '' "$(grep -E ' (WA|WAT|AW)[A-Z]* ' "$work/sections" || true)"
 
 # ---- the programs
-compile limits refusals lines stack left left_lines marked vectors fields calls line_calls lent
+compile limits refusals records lines stack left left_lines marked vectors fields calls line_calls lent
 cc "${flags[@]}" "$work"/{limits,calls,lent}.o "$library" -o "$work/limits"
 cc "${flags[@]}" "$work"/{refusals,calls,lent}.o "$library" -o "$work/refusals"
+cc "${flags[@]}" "$work"/{records,calls,lent}.o "$library" -o "$work/records"
 cc "${flags[@]}" "$work"/{lines,calls,line_calls,lent}.o "$library" -o "$work/lines"
 cc "${flags[@]}" "$work"/{stack,marked,lent}.o "$library" -o "$work/stack"
 cc "${flags[@]}" "$work"/{left,marked,calls,lent}.o "$library" -o "$work/left"
@@ -26,6 +27,7 @@ cc "${flags[@]}" "$work"/{left_lines,marked,lent}.o "$library" -o "$work/left_li
 cc "${flags[@]}" "$work"/{vectors,fields,calls,line_calls,lent}.o "$library" -o "$work/vectors"
 "$work/limits"
 "$work/refusals"
+"$work/records"
 "$work/lines"
 "$work/stack"
 "$work/left"
@@ -47,7 +49,7 @@ while read -r edit; do
     sed "$edit" include/lyra2.h >"$work/include/lyra2.h"
     ! cmp -s include/lyra2.h "$work/include/lyra2.h" || { echo "no header to spoil: $edit"; exit 1; }
     passes=yes
-    for program in limits lines vectors; do
+    for program in limits records lines vectors; do
         cc -std=c99 -I"$work/include" tests/c/{$program,fields,calls,line_calls,lent}.c "$library" -o "$work/wrong" \
             >"$work/log" 2>&1 && "$work/wrong" "$work/few" >"$work/log" 2>&1 || { passes=no; break; }
     done
@@ -97,7 +99,12 @@ s/bool mixer,/size_t mixer,/
 / lyra2_derive_recorded(/,/;/s/bool mixer,/size_t mixer,/
 / lyra2_check(/,/;/s/bool mixer,/size_t mixer,/
 s/CELL_WORDS 12/CELL_WORDS 11/
-s/(columns) + 2))/(columns) + 1))/
+s/(columns) + 1)/(columns))/
+s/(columns) + 1)/(columns) + 2)/
+s/(columns) + 1)/2 * (columns) + 2)/
+/e LYRA2_RECORD_WORDS/s/LYRA2_VISIT_WORDS(columns)/(2 * (columns) + 2)/
+/e LYRA2_VISIT_WORDS/s/(columns) + 1)/2 * (columns) + 2)/; /e LYRA2_RECORD_WORDS/s/LYRA2_VISIT_WORDS(columns)/((columns) + 1)/
+s/record_pair(uint64_t word/record_pair(uint32_t word/
 s/REFUSED_ROWS = 5/REFUSED_ROWS = 6/; s/REFUSED_COLUMNS = 6/REFUSED_COLUMNS = 5/
 s/TOO_SHORT = 3/TOO_SHORT = 10/; s/TOO_LONG = 10/TOO_LONG = 3/
 s/at least 8 bytes/at least 9 bytes/

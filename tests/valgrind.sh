@@ -1,7 +1,8 @@
 #!/usr/bin/env bash
 # The C interface under valgrind's memcheck: no byte outside of what is lent, nothing that depends on what lent memory
 # held before, no touch by a refused call of more than its answer and the line that it reads, no branch on the bytes of a
-# stored key or of one that a line is written from; and faulty libraries, which it finds.
+# stored key or of one that a line is written from, nor on a word of the record that is taken apart; and faulty libraries,
+# which it finds.
 set -eu
 cd "$(dirname "$0")/.."
 . tests/c/build.sh
@@ -12,10 +13,11 @@ memcheck() { # PROGRAM ARGUMENT..
 }
 
 flags+=(-g)
-compile memcheck memcheck_lines watched refusals lines vectors fields calls line_calls lent
+compile memcheck memcheck_lines watched refusals records lines vectors fields calls line_calls lent
 cc "$work"/{memcheck,watched,calls,lent}.o "$library" -o "$work/memcheck"
 cc "$work"/{memcheck_lines,watched,calls,lent}.o "$library" -o "$work/memcheck_lines"
 cc "$work"/{refusals,calls,lent}.o "$library" -o "$work/refusals"
+cc "$work"/{records,calls,lent}.o "$library" -o "$work/records"
 cc "$work"/{lines,calls,line_calls,lent}.o "$library" -o "$work/lines"
 cc "$work"/{vectors,fields,calls,line_calls,lent}.o "$library" -o "$work/vectors"
 # A pipe would hide the status.
@@ -23,6 +25,7 @@ memcheck "$work/memcheck" >"$work/ran"
 memcheck "$work/memcheck_lines" >>"$work/ran"
 cat "$work/ran"
 memcheck "$work/refusals"
+memcheck "$work/records"
 memcheck "$work/lines"
 cc "${flags[@]}" examples/derive_and_check.c "$library" -o "$work/example"
 same 'the example' "$(cat examples/derive_and_check.out)" "$(printf 'correct horse' | memcheck "$work/example" 'salt of 16 bytes' 1 256 64 32)"

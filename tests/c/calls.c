@@ -1,6 +1,8 @@
 /* Calls whose lent memory lies between guards. */
 #include "calls.h"
 
+#include <inttypes.h>
+
 const char *const operation_names[OPERATIONS] = {"derive_recorded", "derive", "check", "cost"};
 const bool mixers[MIXERS] = {LYRA2_MIXER_PLAIN, LYRA2_MIXER_BLAMKA};
 size_t calls_made;
@@ -16,7 +18,7 @@ const struct sizes accepted_sizes = {
     .rotation = LYRA2_ROTATION_USUAL,
     .mixer = LYRA2_MIXER_USUAL,
     .matrix = 36,
-    .record = 12,
+    .record = 6,
 };
 
 #define CHECKS_OF_COST                                                                                              \
@@ -112,6 +114,28 @@ static void require_matrix(const struct call *call, bool written)
         require_zeros(&call->matrix, used, "matrix");
 }
 
+/* The words of a used record hold rows below R and columns below C, and nothing that these numbers do not tell. */
+static void require_visits(const struct call *call)
+{
+    const struct sizes *n = &call->sizes;
+    const uint64_t *record = lent_part(&call->record);
+    for (size_t i = 0; i < used_record(n); i++) {
+        size_t below = i % LYRA2_VISIT_WORDS(n->columns) == 0 ? n->rows : n->columns;
+        uint64_t numbers[2];
+        lyra2_record_pair(record[i], numbers);
+        if (numbers[0] >= below || numbers[1] >= below || record[i] != numbers[0] + 65536 * numbers[1])
+            fail("record: word %zu is %" PRIx64 ", with T %zu, R %zu, C %zu", i, record[i], n->time, n->rows,
+                 n->columns);
+    }
+}
+
+static void require_record(const struct call *call, bool written)
+{
+    require_kept(&call->record, written ? 8 * used_record(&call->sizes) : 0, "record");
+    if (written)
+        require_visits(call);
+}
+
 /* Nothing may have changed but the answer's fields and what the operation writes when it is accepted. */
 static void require_all_kept(const struct call *call)
 {
@@ -124,7 +148,7 @@ static void require_all_kept(const struct call *call)
     require_kept(&call->salt, 0, "salt");
     require_kept(&call->key, accepted && derives ? call->sizes.key : 0, "key");
     require_matrix(call, accepted && walks);
-    require_kept(&call->record, accepted && records ? 8 * used_record(&call->sizes) : 0, "record");
+    require_record(call, accepted && records);
     require_answer_field(&call->state, records, call->answer, "state");
     require_answer_field(&call->counts, true, call->answer, "counts");
     require_answer_field(&call->same, checks, call->answer, "same");

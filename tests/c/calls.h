@@ -42,8 +42,8 @@ extern const uint32_t checks_of[OPERATIONS][MOST_CHECKS + 1];
 bool has_check(enum operation operation, uint32_t check);
 
 /* Lends what the operation takes, calls it, and requires that nothing changed but what the answer allows, that the used
- * matrix of an accepted plain derivation or check is zero, and that the state, the counts and `same` of a refused call
- * are. */
+ * matrix of an accepted plain derivation or check is zero, that the used record of an accepted recorded one holds visits,
+ * and that the state, the counts and `same` of a refused call are zero. */
 void make_call(struct call *call, enum operation operation, struct sizes sizes, struct contents contents);
 
 /* Gives back what was lent. */

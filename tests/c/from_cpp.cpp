@@ -2,12 +2,25 @@
 #include "lyra2.h"
 
 static_assert(LYRA2_MATRIX_WORDS(3, 1) == 36, "the smallest matrix");
-static_assert(LYRA2_RECORD_WORDS(1, 3, 1) == 12, "the smallest record");
-static_assert(LYRA2_RECORD_WORDS(LYRA2_TIME_MAX, LYRA2_ROWS_MAX, LYRA2_COLUMNS_MAX) == 2147450880, "the largest record");
+static_assert(LYRA2_VISIT_WORDS(1) == 2 && LYRA2_VISIT_WORDS(LYRA2_COLUMNS_MAX) == 257, "the visits in a record");
+static_assert(LYRA2_RECORD_WORDS(1, 3, 1) == 6, "the smallest record");
+static_assert(LYRA2_RECORD_WORDS(LYRA2_TIME_MAX, LYRA2_ROWS_MAX, LYRA2_COLUMNS_MAX) == 1073725440, "the largest record");
 static_assert(!LYRA2_MIXER_PLAIN && LYRA2_MIXER_BLAMKA, "the two mixers");
+
+// A word of the record is taken apart into these two numbers, and nothing beside them is written.
+static bool is_pair(uint64_t word, uint64_t low, uint64_t high)
+{
+    const uint64_t guard = 0xa5a5a5a5a5a5a5a5;
+    uint64_t numbers[4] = {guard, guard, guard, guard};
+    lyra2_record_pair(word, numbers + 1);
+    return numbers[0] == guard && numbers[1] == low && numbers[2] == high && numbers[3] == guard;
+}
 
 int main()
 {
+    if (!is_pair(0, 0, 0) || !is_pair(65535, 65535, 0) || !is_pair(65536, 0, 1) || !is_pair(UINT32_MAX, 65535, 65535)
+        || !is_pair(UINT64_C(1) << 32, 0, 65536) || !is_pair(UINT64_MAX, 65535, 281474976710655))
+        return 1;
     const uint8_t password[] = {'p'}, salt[LYRA2_SALT_MIN] = {};
     uint8_t key[32] = {};
     uint64_t matrix[LYRA2_MATRIX_WORDS(3, 1)], counts[LYRA2_COUNTS];

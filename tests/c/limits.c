@@ -151,7 +151,7 @@ static void require_limit(const struct limit *limit)
 }
 
 /* The macros give the least words: with them a call is accepted, with words to spare too, and refused with a word less.
- * A record without visits has no words. */
+ * A record without visits has no words. One of twice the words has room for each number alone, and the rest is kept. */
 static void require_least_words(size_t time, size_t rows, size_t columns)
 {
     struct sizes sizes = accepted_sizes;
@@ -159,6 +159,9 @@ static void require_least_words(size_t time, size_t rows, size_t columns)
     sizes.rows = rows;
     sizes.columns = columns;
     require_accepted(sizes);
+    sizes = fitting(sizes);
+    sizes.record *= 2;
+    require_agreement(sizes);
     sizes = fitting(sizes);
     sizes.matrix += SPARE;
     sizes.record += SPARE;
@@ -222,7 +225,7 @@ static void require_conversion(size_t number)
         || lyra2_derive(password, 8, salt, sizeof salt, 1, 3, 1, rounds, rotation, number, derived, 32, matrix, 36,
                         counts) != LYRA2_ACCEPTED
         || lyra2_derive_recorded(password, 8, salt, sizeof salt, 1, 3, 1, rounds, rotation, number, recorded, 32,
-                                 matrix, 36, record, 12, state, counts) != LYRA2_ACCEPTED
+                                 matrix, 36, record, 6, state, counts) != LYRA2_ACCEPTED
         || lyra2_check(password, 8, salt, sizeof salt, 1, 3, 1, rounds, rotation, number, due, 32, matrix, 36, &same,
                        counts) != LYRA2_ACCEPTED
         || memcmp(derived, due, sizeof due) != 0 || memcmp(recorded, due, sizeof due) != 0 || same != 1)

@@ -156,7 +156,7 @@ static void require_refusals(bool mixer)
     wrong[4].rows = LYRA2_ROWS_MAX + 1;
     wrong[5].columns = 0;
     wrong[6].matrix = 35;
-    wrong[7].record = 11;
+    wrong[7].record = 5;
     for (uint32_t i = 0; i < 8; i++)
         require_refused(wrong[i], i + 1);
     wrong[0].key = LYRA2_KEY_MAX + 1;
@@ -173,12 +173,12 @@ static void require_refusals(bool mixer)
     require_refused(rotation, LYRA2_REFUSED_ROTATION);
 }
 
-/* The lengths and numbers of these sizes, exactly lent and with words to spare. */
+/* The lengths and numbers of these sizes, exactly lent and with words to spare, of the record as many as it uses. */
 static void require_sizes(struct sizes n)
 {
     for (size_t spare = 0; spare <= SPARE; spare += SPARE) {
         n.matrix = used_matrix(&n) + spare;
-        n.record = used_record(&n) + spare;
+        n.record = used_record(&n) * (spare > 0 ? 2 : 1) + spare;
         require_derivation(&n, 1);
         require_derivation(&n, 0);
     }
@@ -223,6 +223,24 @@ static void require_cost_and_walk(void)
     free(row1);
 }
 
+/* The decoder writes two numbers. A word of the record is secret, so it takes no branch on one that is marked as never
+ * written. */
+static void require_pair(uint64_t word)
+{
+    size_t bytes = 2 * sizeof word;
+    uint64_t *numbers = unwritten(bytes), hidden = word;
+    lyra2_record_pair(word, numbers);
+    require_written("numbers", numbers, bytes, bytes);
+    (void)VALGRIND_MAKE_MEM_UNDEFINED(numbers, bytes);
+    (void)VALGRIND_MAKE_MEM_UNDEFINED(&hidden, sizeof hidden);
+    lyra2_record_pair(hidden, numbers);
+    (void)VALGRIND_MAKE_MEM_DEFINED(numbers, bytes);
+    if (numbers[0] != word % 65536 || numbers[1] != word / 65536)
+        fail("record_pair: %zu and %zu", (size_t)numbers[0], (size_t)numbers[1]);
+    calls_made += 2;
+    free(numbers);
+}
+
 int main(void)
 {
     static const size_t keys[] = {1, 8, 95, 96, 97, 191, 192, 193, LYRA2_KEY_MAX - 1, LYRA2_KEY_MAX};
@@ -233,6 +251,8 @@ int main(void)
     for (size_t i = 0; i < MIXERS; i++)
         require_refusals(mixers[i]);
     require_cost_and_walk();
+    for (size_t i = 0; i <= 64; i++)
+        require_pair(i == 64 ? UINT64_MAX : UINT64_C(1) << i);
     for (size_t i = 0; i < sizeof keys / sizeof *keys; i++)
         for (size_t j = 0; j < sizeof passwords / sizeof *passwords; j++)
             require_shape(1, 3 + i % 3, 1 + j % 3, keys[i], passwords[j], i % 2 ? LYRA2_SALT_MAX : LYRA2_SALT_MIN);
