@@ -161,14 +161,15 @@ is_found() { # FAULT PROGRAM..
 }
 # Where all operations take one mixer for the other they agree with one another, and the vectors alone tell.
 grep -E ' op=(derive|derive_recorded|check) .* rho=.* matrix_words=[0-9]{1,3} ' vectors/lyra2.txt >"$work/settings"
-for program in limits refusals vectors lines; do
+for program in limits refusals records vectors lines; do
     build_faulty 0 $program
     "$work/faulty" "$work/settings" >"$work/log" 2>&1 || { cat "$work/log"; echo 'the wrapped library without a fault fails'; exit 1; }
 done
 found=0
-# From 200 on in the settings of the plain derivation, the recorded one, the check, the cost question, and all of them.
-for fault in {1..54} {200..227} {240..267} {280..307} 323 324 327 340 345 346 {360..387}; do
-    is_found "$fault" limits refusals vectors || { echo "fault $fault is not found"; exit 1; }
+# From 200 on in the settings of the plain derivation, the recorded one, the check, the cost question, and all of them; from
+# 400 on in the record's room, in its words and in their decoder. Two rows that are exchanged the vectors alone tell.
+for fault in {1..54} {200..227} {240..267} {280..307} 323 324 327 340 345 346 {360..387} {401..403} {411..423} {431..440}; do
+    is_found "$fault" limits refusals records vectors || { echo "fault $fault is not found"; exit 1; }
     found=$((found + 1))
 done
 for fault in {101..128} {131..142}; do

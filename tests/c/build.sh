@@ -6,7 +6,7 @@ library=target/staticlib/libderivation_export.a
 work=$(mktemp -d)
 trap 'rm -rf "$work"' EXIT
 flags=(-std=c99 -O2 -Wall -Wextra -pedantic -Werror -Iinclude)
-wrapped=-Wl$(printf ',--wrap=lyra2_%s' derive derive_recorded check cost walk line_read line_write)
+wrapped=-Wl$(printf ',--wrap=lyra2_%s' derive derive_recorded check cost walk record_pair line_read line_write)
 
 same() { # WHAT EXPECTED FOUND
     [ "$2" = "$3" ] || { echo "$1: expected '$2', found '$3'"; exit 1; }
@@ -20,15 +20,16 @@ compile() { # NAME..
     done
 }
 
-# Compiles the faulty library to the objects `faulty`; `wrapped` is for the linker. Each source has a hundred of the numbers,
-# the last one all that follow, and is as good as without a fault for all others.
+# Compiles the faulty library to the objects `faulty`; `wrapped` is for the linker. Each source has one or two hundreds of the
+# numbers, and is as good as without a fault for all others.
 compile_fault() { # FAULT
-    local sources=(faulty faulty_lines faulty_settings) place own object
+    local hundreds=(faulty faulty_lines faulty_settings faulty_settings faulty_records) source own object
     faulty=()
-    for place in "${!sources[@]}"; do
-        own=$((($1 < 200 ? $1 / 100 : 2) == place ? $1 : 0))
-        object=$work/${sources[place]}_$own.o
-        [ -e "$object" ] || cc "${flags[@]}" -DFAULT="$own" -c "tests/c/${sources[place]}.c" -o "$object" || exit 1
+    for source in faulty faulty_lines faulty_settings faulty_records; do
+        own=0
+        [ "$source" != "${hundreds[$1 / 100]}" ] || own=$1
+        object=$work/${source}_$own.o
+        [ -e "$object" ] || cc "${flags[@]}" -DFAULT="$own" -c "tests/c/$source.c" -o "$object" || exit 1
         faulty+=("$object")
     done
 }

@@ -1,8 +1,8 @@
 /*
  * A library with one fault, to see that the tests of the C interface find it: linked with --wrap, it stands between a
  * test and the library. FAULT chooses the fault; 0 is none, those from 60 on are seen by memcheck alone, and those from
- * 70 on by the search of the stack alone. Those from 100 on are in faulty_lines.c and those from 200 on in
- * faulty_settings.c.
+ * 70 on by the search of the stack alone. Those from 100 on are in faulty_lines.c, those from 200 on in
+ * faulty_settings.c and those from 400 on in faulty_records.c.
  */
 #include "faulty.h"
 #include "lyra2.h"
@@ -187,8 +187,11 @@ uint32_t __wrap_lyra2_derive_recorded(DERIVE_PARAMETERS, uint64_t *record, size_
     uint64_t last_word = state[LYRA2_STATE_WORDS - 1], full = counts[LYRA2_FULL_CALLS];
     struct given given = {rounds, rotation, mixer, matrix_words >= LYRA2_MATRIX_WORDS(rows, columns)};
     spoil_settings(OF_RECORDED, &rounds, &rotation, &mixer);
-    uint32_t answer = __real_lyra2_derive_recorded(DERIVE_VALUES, record, record_words, state, counts);
+    size_t room = spoil_room(time, rows, columns, record_words);
+    uint32_t answer = __real_lyra2_derive_recorded(DERIVE_VALUES, record, room, state, counts);
     bool accepted = answer == LYRA2_ACCEPTED;
+    if (accepted)
+        spoil_record(time, rows, columns, record, record_words);
     if (has(10, accepted))
         record[LYRA2_RECORD_WORDS(time, rows, columns)] ^= 1;
     if (has(11, !accepted))

@@ -27,6 +27,12 @@ void spoil_settings(int first, size_t *rounds, size_t *rotation, bool *mixer);
 /* The number in the place of the library's, which was given spoilt settings; changes the counts of an accepted call. */
 uint32_t spoil_answer(int first, struct given given, uint32_t answer, uint64_t *counts);
 
+/* The words of the lent record that the library is told of. */
+size_t spoil_room(size_t time, size_t rows, size_t columns, size_t record_words);
+
+/* Changes the record of an accepted call. */
+void spoil_record(size_t time, size_t rows, size_t columns, uint64_t *record, size_t record_words);
+
 /* Leaves up to eight bytes on the stack, where no word starts, as a function does that does not wipe its own place. */
 void leave(const uint8_t *bytes, size_t count);
 
