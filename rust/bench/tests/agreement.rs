@@ -9,6 +9,7 @@ use bench::settings::{self, SETTINGS};
 use bench::table::{inputs, inputs_with};
 use bench::{intrinsics, speed};
 use derivation_link::Proved;
+use lyra2_reference::record::{visits, Visit};
 use lyra2_reference::vectors::Subject;
 use lyra2_reference::{derive_recorded, Inputs, Mixer, Settings};
 
@@ -61,10 +62,10 @@ fn compare_mixing(inputs: &Inputs, key_len: usize) -> usize {
     };
     let (mut due_key, mut end_matrix, mut record) = places();
     let answer = derive_recorded(inputs, &mut due_key, &mut end_matrix, &mut record);
-    let (mut key, mut matrix, mut visits) = places();
-    let proved = Proved.derive_recorded(inputs, &mut key, &mut matrix, &mut visits);
+    let (mut key, mut matrix, mut noted) = places();
+    let proved = Proved.derive_recorded(inputs, &mut key, &mut matrix, &mut noted);
     assert_eq!(proved, Some(answer), "the recorded answer of {inputs:?}");
-    let recorded = (key, matrix, visits) == (due_key.clone(), end_matrix, record.clone());
+    let recorded = (key, matrix, noted) == (due_key.clone(), end_matrix, record.clone());
     assert!(recorded, "key, end matrix or record of {inputs:?}");
     for (name, derive) in derivations(inputs.settings) {
         let mut key = vec![0xa5; key_len];
@@ -77,8 +78,9 @@ fn compare_mixing(inputs: &Inputs, key_len: usize) -> usize {
         assert!(wiped.iter().all(|&word| word == 0), "words left by {asked}");
         assert_eq!(past, [7; PAST], "words past the matrix of {asked}");
     }
-    let visits = record.chunks_exact(2 + 2 * inputs.c as usize);
-    visits.filter(|visit| visit[0] == visit[1]).count()
+    let has_one_row = |visit: &&Visit| visit.rows[0] == visit.rows[1];
+    let visits = visits(&record, inputs.c as usize);
+    visits.iter().filter(has_one_row).count()
 }
 
 /// Bytes that differ from place to place.
