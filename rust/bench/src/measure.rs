@@ -4,7 +4,7 @@
 //! programs change their order.
 //!
 //! All must leave the key that the second program derives. The recorded derivation must also leave that program's end
-//! matrix, word for word. The others must leave zeros, which tell that the matrix was wiped and nothing of what was in
+//! matrix and its record, word for word. The others must leave zeros, which tell that the matrix was wiped and nothing of what was in
 //! it, so that the key alone vouches for their walk.
 
 use crate::lent::Lent;
@@ -64,6 +64,7 @@ impl Times {
 struct Due {
     key: [u8; 32],
     end_matrix: Vec<u64>,
+    record: Vec<u64>,
 }
 
 impl Due {
@@ -74,7 +75,11 @@ impl Due {
         let mut record = vec![0; given.record_words() as usize];
         let answer = derive_recorded(inputs, &mut key, &mut end_matrix, &mut record);
         answer.expect("no check refuses");
-        Due { key, end_matrix }
+        Due {
+            key,
+            end_matrix,
+            record,
+        }
     }
 
     /// Ends the benchmark if a program left something else.
@@ -88,6 +93,7 @@ impl Due {
         let matrix = lent.matrix();
         if program.keeps_matrix {
             assert!(matrix == self.end_matrix, "the end matrix of {name}");
+            assert!(lent.record == self.record, "the record of {name}");
         } else {
             let wiped = matrix.iter().all(|&word| word == 0);
             assert!(wiped, "{name} left words in the matrix");

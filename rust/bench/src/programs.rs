@@ -25,7 +25,7 @@ pub struct Program {
     pub name: &'static str,
     /// Whether it computes Lyra2, and so has to agree with the others.
     pub lyra2: bool,
-    /// Whether it leaves its end matrix, as the recorded derivation does; the others of Lyra2 leave zeros.
+    /// Whether it leaves its end matrix and a record, as the recorded derivation does; the others of Lyra2 leave zeros.
     pub keeps_matrix: bool,
     /// Whether it is drawn in the picture of time against memory.
     pub drawn: bool,

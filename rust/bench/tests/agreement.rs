@@ -9,7 +9,7 @@ use bench::settings::{self, SETTINGS};
 use bench::table::{inputs, inputs_with};
 use bench::{intrinsics, speed};
 use derivation_link::Proved;
-use lyra2_reference::record::{visits, Visit};
+use lyra2_reference::record::{numbers, visits, word, Visit};
 use lyra2_reference::vectors::Subject;
 use lyra2_reference::{derive_recorded, Inputs, Mixer, Settings};
 
@@ -258,7 +258,7 @@ fn a_caller_who_derives_once_is_measured_with_both_kinds_of_memory() {
     assert!(times.iter().all(|times| times.count() == 3));
 }
 
-/// Measures a program that has to leave its end matrix, or else to wipe it.
+/// Measures a program that has to leave its end matrix and its record, or else to wipe the matrix.
 fn measure_one(keeps_matrix: bool, derive: impl Fn(&Inputs, &mut Lent) + 'static) {
     let program = Program {
         name: "spoilt",
@@ -283,9 +283,8 @@ fn measure_spoilt(spoil: fn(&mut Lent)) {
 /// The same for a recorded derivation.
 fn measure_spoilt_recorded(spoil: fn(&mut Lent)) {
     measure_one(true, move |inputs, lent| {
-        let (mut key, mut record) = ([0; 32], lent.record.clone());
-        derive_recorded(inputs, &mut key, lent.matrix(), &mut record).expect("no check refuses");
-        lent.key = key;
+        let (key, matrix, record) = lent.all();
+        derive_recorded(inputs, key, matrix, record).expect("no check refuses");
         spoil(lent);
     });
 }
@@ -330,4 +329,19 @@ fn a_wrong_end_matrix_ends_the_measurement() {
 #[should_panic(expected = "the end matrix of spoilt")]
 fn a_wiped_end_matrix_ends_the_measurement() {
     measure_spoilt_recorded(|lent| lent.matrix().fill(0));
+}
+
+#[test]
+#[should_panic(expected = "the record of spoilt")]
+fn a_wrong_record_ends_the_measurement() {
+    measure_spoilt_recorded(|lent| lent.record[32 * 5 - 1] ^= 1);
+}
+
+#[test]
+#[should_panic(expected = "the record of spoilt")]
+fn an_exchange_of_two_rows_ends_the_measurement() {
+    measure_spoilt_recorded(|lent| {
+        let [row0, row1] = numbers(lent.record[0]);
+        lent.record[0] = word([row1, row0]);
+    });
 }
