@@ -24,25 +24,30 @@ impl Call<'_> {
         check_record(&self.given, self.settings, self.matrix, self.record)
     }
 
-    fn refused_below(&self, room: u64) -> Result<(), Refusal> {
+    /// The room is only asked for where the numbers are within their limits, so that it can be worked out.
+    fn refused_below(&self, room: fn(&Parameters) -> u64) -> Result<(), Refusal> {
         check_matrix(&self.given, self.settings, self.matrix)?;
-        match (self.record.len() as u64) < room {
+        match (self.record.len() as u64) < room(&self.given) {
             true => Err(Refusal::RecordWords),
             false => Ok(()),
         }
     }
 }
 
+/// The checks of a program.
+type Checks = fn(&Call) -> Result<(), Refusal>;
+/// The words that a program writes for a visit.
+type Words = fn(&Visit) -> Vec<u64>;
+/// What a program does at last to the lent record, of which so many words are used.
+type End = fn(&mut [u64], usize);
+
 /// A program by what it does with the record; it puts down as many words as there is room for.
 #[derive(Clone, Copy)]
 struct Program {
     name: &'static str,
-    /// Its checks.
-    refuses: fn(&Call) -> Result<(), Refusal>,
-    /// The words that it writes for a visit.
-    words: fn(&Visit) -> Vec<u64>,
-    /// What it does at last to the lent record, of which so many words are used.
-    ends: fn(&mut [u64], usize),
+    refuses: Checks,
+    words: Words,
+    ends: End,
 }
 
 const RIGHT: Program = Program {
@@ -121,7 +126,7 @@ fn unpacked(visit: &Visit) -> Vec<u64> {
     [&visit.rows[..], visit.columns.as_flattened()].concat()
 }
 
-const WRONG_WORDS: [(&str, fn(&Visit) -> Vec<u64>); 11] = [
+const WRONG_WORDS: [(&str, Words); 11] = [
     ("row1 and col1 are low", |visit| {
         each(visit, |[first, second]| word([second, first]))
     }),
@@ -164,30 +169,24 @@ const WRONG_WORDS: [(&str, fn(&Visit) -> Vec<u64>); 11] = [
     ("a number in each word", unpacked),
 ];
 
-const WRONG_CHECKS: [(&str, fn(&Call) -> Result<(), Refusal>); 8] = [
+const WRONG_CHECKS: [(&str, Checks); 8] = [
     ("the room of a number in each word is asked for", |call| {
-        call.refused_below(2 * call.given.record_words())
+        call.refused_below(|given| 2 * given.record_words())
     }),
     ("a word more is asked for", |call| {
-        call.refused_below(call.given.record_words() + 1)
+        call.refused_below(|given| given.record_words() + 1)
     }),
     ("a word fewer is asked for", |call| {
-        call.refused_below(call.given.record_words().saturating_sub(1))
+        call.refused_below(|given| given.record_words().saturating_sub(1))
     }),
     ("no word is asked for the rows", |call| {
-        call.refused_below(call.given.record_words() - call.given.r * call.given.t)
+        call.refused_below(|given| given.r * given.t * given.c)
     }),
     (
         "the words of one visit for each row are asked for",
-        |call| {
-            call.refused_below(
-                call.given
-                    .record_words()
-                    .min(call.given.r * (1 + call.given.c)),
-            )
-        },
+        |call| call.refused_below(|given| given.r * given.t.min(1) * (1 + given.c)),
     ),
-    ("no record is too short", |call| call.refused_below(0)),
+    ("no record is too short", |call| call.refused_below(|_| 0)),
     ("the record comes before the matrix", |call| {
         match call.refused_by_the_rules() {
             Err(Refusal::MatrixWords) => {
@@ -209,7 +208,7 @@ const WRONG_CHECKS: [(&str, fn(&Call) -> Result<(), Refusal>); 8] = [
     }),
 ];
 
-const WRONG_ENDS: [(&str, fn(&mut [u64], usize)); 4] = [
+const WRONG_ENDS: [(&str, End); 4] = [
     ("the word after the used ones is cleared", |record, used| {
         record[used..].iter_mut().take(1).for_each(|word| *word = 0)
     }),
@@ -294,7 +293,7 @@ fn every_wrong_record_is_noticed_by_the_new_cases_with_each_mixer() {
 #[test]
 fn a_room_that_is_cut_to_16_bits_is_noticed() {
     let cut = Program {
-        refuses: |call| call.refused_below(call.given.record_words() % (1 << 16)),
+        refuses: |call| call.refused_below(|given| given.record_words() % (1 << 16)),
         ..RIGHT
     };
     let cases = cases_with(Mixer::Plain);
