@@ -79,7 +79,7 @@ fn visit(
     record: &mut [u64],
     at: usize,
 ) -> Visited
-    requires { ⌜ Ready (settings p) (prev0 .0) (prev1 .0) (length (now m)) × (at + visitWords (settings p) < 2 ^ 64) ⌝ }
+    requires { ⌜ Ready (settings p) (prev0 .0) (prev1 .0) (length (now m)) × (at + visitWords (settings p) < 2 ^ 63) ⌝ }
     ensures { λ r. ⌜ OneVisit (settings p) at (walk (work (now (s .entry)) (now (m .entry))) (prev0 .0) (prev1 .0)) (walk (work (now (s .exit)) (now (m .exit))) (r .row0 .0) (r .row1 .0)) (now («record» .entry)) (now («record» .exit)) (r .calls) ⌝ }
 {
     let r = pick_rows(s, prev0, prev1, p);

@@ -1,7 +1,7 @@
 -- `visit_row` meets its contract. The loop's invariant: work and record are those of the first col columns, each a reduced call, and p are the
 -- picks of the next. Assumes nothing.
 use mathlib.Core.Path.{_≡_, refl, sym, ap, _∙_}
-use Prim.Native.Nat.{ℕ, _≤_, _-_}
+use Prim.Native.Nat.{ℕ, _+_, _≤_, _-_}
 use native.Mathlib.Omega.{arith}
 use lib.ListN.{length}
 use Rattle.lists.specs.Zip.{zipAt}
@@ -50,7 +50,7 @@ loop-again c =
     let a = head .before .before .before .before .before .before .args in
     let v = head .loop in (
       omega (arith, c .before .before .before .before .before .before .before .before .before .if1 .taken),
-      omega (arith, v .inv .1),
+      ap (λ (n : ℕ). n + 1) (v .inv .1),
       visited .kept .1 .0 ∙ v .inv .2,
       noted .kept .0 ∙ v .inv .3,
       visited .ensures .0,

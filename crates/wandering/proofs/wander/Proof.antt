@@ -1,7 +1,7 @@
 -- `wander` meets its contract. The loop's invariant: where what stands before it is what one visit leaves, it is what k visits leave, and the record
 -- goes on at the next visit's place; the words of one visit are far from a word's end. Assumes nothing.
-use mathlib.Core.Path.{_≡_, refl, sym, _∙_}
-use Prim.Native.Nat.{ℕ, _≤_, _<_, _-_, _*_, _^_}
+use mathlib.Core.Path.{_≡_, refl, sym, ap, _∙_}
+use Prim.Native.Nat.{ℕ, _≤_, _<_, _+_, _-_, _*_, _^_}
 use native.Mathlib.Omega.{arith}
 use native.Mathlib.Nat.{zero-mul, zero-add}
 use mathlib.Core.List.{List}
@@ -65,7 +65,7 @@ loop-again c =
       call .ensures .prev0-lt,
       call .ensures .prev1-lt,
       omega (arith, v .inv .3, call .ensures .counted, row-more (v .k) (a .p .columns)),
-      omega (arith, v .inv .4, row-more (v .k) (visitWords (settings (a .p)))),
+      ap (λ (n : ℕ). n + (1 + a .p .columns)) (v .inv .4) ∙ sym (row-more (v .k) (visitWords (settings (a .p)))),
       call .kept .1 .0 ∙ v .inv .5,
       call .kept .1 .1 .1 .1 .1 .0 ∙ v .inv .6,
       v .inv .7,
