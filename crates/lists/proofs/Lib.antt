@@ -7,3 +7,4 @@ pub mod Parts
 pub mod Traces
 pub mod Cleared
 pub mod EveryLaws
+pub mod Grown

@@ -5,8 +5,9 @@ use Prim.Native.Nat.{ℕ, zero, suc, _*_, _%_, _<_, _≤_}
 use native.Mathlib.Nat.{mod-lt, suc-mul}
 use native.Mathlib.Omega.{arith}
 use mathlib.Core.List.{List, [], _∷_, _++_}
-use lib.ListN.{length, take, drop, length-append, length-drop, take-append-drop}
+use lib.ListN.{length, take, drop, length-drop, take-append-drop}
 use lib.Seq.{take-at, drop-at, length-take-le}
+use Rattle.lists.proofs.Grown.{All, grown-length, grown-all}
 use Rattle.packing.proofs.PackingLaws.{low-packed, high-packed, packed-numbers}
 use Rattle.settings.specs.Settings.{Settings}
 use Rattle.columns.specs.Columns.{Work, picks}
@@ -27,10 +28,9 @@ length-visit v = omega (arith, length-picks (v .columns))
 
 -- ---- visits to words and back
 
--- the first columns have 16 bits
+-- the first column has 16 bits
 abbrev pub LowPicks : List Picks → Type 0
-LowPicks [] = Unit {0}
-LowPicks (p ∷ ps) = (p .col0 .0 < 65536) × LowPicks ps
+LowPicks = All (λ p. p .col0 .0 < 65536)
 
 -- a visit of C columns, whose first row has 16 bits too
 pub record LowVisit (C : ℕ) (v : Visit) : Type 0 where
@@ -39,8 +39,7 @@ pub record LowVisit (C : ℕ) (v : Visit) : Type 0 where
   pub picks-lt : LowPicks (v .columns)
 
 abbrev pub LowVisits : ℕ → List Visit → Type 0
-LowVisits C [] = Unit {0}
-LowVisits C (v ∷ vs) = LowVisit C v × LowVisits C vs
+LowVisits C = All (LowVisit C)
 
 decode-picks : (ps : List Picks) → LowPicks ps → decodePicks (encodePicks ps) ≡ ps
 unfolding encodePicks decodePicks
@@ -96,22 +95,11 @@ encode-decode C (suc n) words l =
 
 pub as-many-picks : (S : Settings) (r : Rows) (n : ℕ) (w : Work) → length (columnPicks S r n w) ≡ n
 unfolding columnPicks
-as-many-picks S r zero w = refl
-as-many-picks S r (suc n) w =
-    omega (arith, length-append (columnPicks S r n w) (picks S (visitColumns S r n w .state) ∷ []), as-many-picks S r n w)
+as-many-picks S r n w = grown-length (λ k. columnPicks S r k w) (λ k. picks S (visitColumns S r k w .state)) refl (λ k. refl) n
 
 as-many-visits : (S : Settings) (n : ℕ) (w : Walk) → length (visits S n w) ≡ n
 unfolding visits
-as-many-visits S zero w = refl
-as-many-visits S (suc n) w = omega (arith, length-append (visits S n w) (visitData S (wander S n w) ∷ []), as-many-visits S n w)
-
-one-pick-more : (ps : List Picks) (p : Picks) → LowPicks ps → p .col0 .0 < 65536 → LowPicks (ps ++ (p ∷ []))
-one-pick-more [] p h l = (l, tt)
-one-pick-more (q ∷ ps) p h l = (h .0, one-pick-more ps p (h .1) l)
-
-one-visit-more : (C : ℕ) (vs : List Visit) (v : Visit) → LowVisits C vs → LowVisit C v → LowVisits C (vs ++ (v ∷ []))
-one-visit-more C [] v h l = (l, tt)
-one-visit-more C (u ∷ vs) v h l = (h .0, one-visit-more C vs v (h .1) l)
+as-many-visits S n w = grown-length (λ k. visits S k w) (λ k. visitData S (wander S k w)) refl (λ k. refl) n
 
 below-16-bits : (a n : ℕ) → 0 < n → n ≤ 65536 → a % n < 65536
 below-16-bits a n pos most = omega (arith, mod-lt a pos)
@@ -119,9 +107,9 @@ below-16-bits a n pos most = omega (arith, mod-lt a pos)
 module _ (S : Settings) (h : Packable S) where
   low-picks : (r : Rows) (n : ℕ) (w : Work) → LowPicks (columnPicks S r n w)
   unfolding columnPicks picks
-  low-picks r zero w = tt
-  low-picks r (suc n) w =
-      one-pick-more (columnPicks S r n w) _ (low-picks r n w) (below-16-bits _ (S .columns) (h .columns-pos) (h .columns-most))
+  low-picks r n w =
+      grown-all (λ k. columnPicks S r k w) (λ k. picks S (visitColumns S r k w .state)) refl (λ k. refl) (λ p. p .col0 .0 < 65536)
+      (λ k. below-16-bits _ (S .columns) (h .columns-pos) (h .columns-most)) n
 
   low-visit : (w : Walk) → LowVisit (S .columns) (visitData S w)
   unfolding visitData pickedRows
@@ -134,8 +122,8 @@ module _ (S : Settings) (h : Packable S) where
 
   pub low-visits : (n : ℕ) (w : Walk) → LowVisits (S .columns) (visits S n w)
   unfolding visits
-  low-visits zero w = tt
-  low-visits (suc n) w = one-visit-more (S .columns) (visits S n w) (visitData S (wander S n w)) (low-visits n w) (low-visit (wander S n w))
+  low-visits n w =
+      grown-all (λ k. visits S k w) (λ k. visitData S (wander S k w)) refl (λ k. refl) (LowVisit (S .columns)) (λ k. low-visit (wander S k w)) n
 
   -- what a walk's record tells is its visits
   pub decode-visits : (n : ℕ) (w : Walk) → decode (S .columns) n (encode (visits S n w)) ≡ visits S n w
