@@ -1,11 +1,12 @@
 -- `visit` meets its contract: the rows are picked and noted, then the columns are visited. Assumes nothing.
-use mathlib.Core.Path.{_∙_, ap}
+use mathlib.Core.Path.{_≡_, _∙_, ap}
 use Prim.Native.Nat.{ℕ, _+_}
 use native.Mathlib.Omega.{arith}
 use mathlib.Core.List.{List}
 use denote.Ref.{now}
-use lib.ListN.{length}
+use lib.ListN.{length, set}
 use Rattle.lists.specs.Zip.{zipAt}
+use Rattle.packing.specs.Packing.{packed}
 use Rattle.columns.specs.declared.Rows.{Rows}
 use Rattle.settings.specs.Settings.{settings}
 use Rattle.columns.specs.Columns.{work}
@@ -41,13 +42,14 @@ returns c =
     let row = c .before .before .before .before .before .before .visit-row in
     let noted = c .before .before .before .before .before .before .before .before .before .before .before .before .note in
     let w = walk (work (now (start .args .s)) (now (start .args .m))) (start .args .prev0 .0) (start .args .prev1 .0) in
+    let rows-noted : _ ≡ set (now (start .args .«record»)) (start .args .at) (packed (r .result .row0 .0) (r .result .row1 .0)) = noted .ensures in
     record {
       counted = row .ensures .0;
       prev0-lt = r .ensures .0;
       prev1-lt = r .ensures .1;
       walked = visit-done (settings (start .args .p)) w (r .result) (r .ensures .2) _ (row .ensures .1);
       noted = visit-noted (settings (start .args .p)) w (r .result) (r .ensures .2) (start .args .at) (now (start .args .«record»)) _
-          (row .ensures .2 ∙ ap (λ (l : List ℕ). zipAt (λ x y. y) (start .args .at + 1) l (encodePicks (columnPicks (settings (start .args .p)) (r .result) (start .args .p .columns) (w .done)))) (noted .ensures));
+          (row .ensures .2 ∙ ap (λ (l : List ℕ). zipAt (λ x y. y) (start .args .at + 1) l (encodePicks (columnPicks (settings (start .args .p)) (r .result) (start .args .p .columns) (w .done)))) rows-noted);
     }
 
 pub visit-spec : {M : Type 1} → statement M

@@ -3,10 +3,11 @@
 use mathlib.Core.Path.{_≡_, refl, sym, ap, _∙_}
 use Prim.Native.Nat.{ℕ, _+_, _≤_, _-_}
 use native.Mathlib.Omega.{arith}
-use lib.ListN.{length}
+use lib.ListN.{length, set}
 use Rattle.lists.specs.Zip.{zipAt}
 use Rattle.lists.proofs.ZipLaws.{zipAt-none}
 use Rattle.lists.proofs.LoopLaws.{loop-none, loop-more}
+use Rattle.packing.specs.Packing.{packed}
 use Rattle.columns.specs.Bounds.{AtRows, Picked}
 use Rattle.settings.specs.Settings.{settings}
 use Rattle.columns.specs.declared.Picks.{Picks}
@@ -48,7 +49,8 @@ loop-again c =
     let noted = c .before .before .before .before .before .before .before .note in
     let head = c .before .before .before .before .before .before .before .before .before .before .before in
     let a = head .before .before .before .before .before .before .args in
-    let v = head .loop in (
+    let v = head .loop in
+    let column-word : _ ≡ set (v .«record») (a .at + v .col) (packed (v .next .col0 .0) (v .next .col1 .0)) = noted .ensures in (
       omega (arith, c .before .before .before .before .before .before .before .before .before .if1 .taken),
       ap (λ (n : ℕ). n + 1) (v .inv .1),
       visited .kept .1 .0 ∙ v .inv .2,
@@ -58,7 +60,7 @@ loop-again c =
         loop-more _ _ _ _ _ (v .inv .5 r e .0)
             (visit-column-done (settings (a .p)) r (v .col) (v .next) (v .s) (v .m) _ _ (visited .ensures .1 r e) (visited .ensures .2 r e)
             ∙ ap (λ (q : Picks). visitColumn (settings (a .p)) r (v .col) q (work (v .s) (v .m))) (v .inv .4 .is)),
-        noted .ensures
+        column-word
             ∙ column-noted (settings (a .p)) r _ (v .col) (a .at) _ (v .«record») (v .next) (v .inv .5 r e .1)
             (v .inv .4 .is ∙ ap (λ (w : Work). picks (settings (a .p)) (w .state)) (v .inv .5 r e .0)),
       ),
