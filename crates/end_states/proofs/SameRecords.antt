@@ -7,7 +7,7 @@ use Prim.Native.Nat.{ℕ, _+_, _*_, _<_}
 use native.Mathlib.Omega.{arith}
 use mathlib.Core.List.{List, [], _∷_, _++_}
 use lib.ListN.{length}
-use Rattle.packing.specs.Packing.{packed, lowOf, highOf}
+use Rattle.packing.specs.Packing.{pairFactor, packed, lowOf, highOf}
 use Rattle.packing.proofs.PackingLaws.{low-packed, high-packed}
 use Rattle.settings.specs.Settings.{settings}
 use Rattle.settings.specs.Sizes.{visitCount}
@@ -48,7 +48,7 @@ numbers : List ℕ → List ℕ
 numbers [] = []
 numbers (word ∷ words) = lowOf word ∷ highOf word ∷ numbers words
 
-numbers-packed : (low high : ℕ) → low < 65536 → (words : List ℕ) → numbers (packed low high ∷ words) ≡ low ∷ high ∷ numbers words
+numbers-packed : (low high : ℕ) → low < pairFactor → (words : List ℕ) → numbers (packed low high ∷ words) ≡ low ∷ high ∷ numbers words
 unfolding numbers
 numbers-packed low high h words = ap₂ (λ (a b : ℕ). a ∷ b ∷ numbers words) (low-packed low high h) (high-packed low high h)
 

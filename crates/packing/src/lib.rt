@@ -2,11 +2,11 @@
 ghost use mathlib.Core.Path.{_≡_};
 ghost use Prim.Native.Nat.{_<_};
 ghost use lib.ListN.{set};
-ghost use Rattle.packing.specs.Packing.{packed, lowOf, highOf};
+ghost use Rattle.packing.specs.Packing.{pairFactor, packed, lowOf, highOf};
 
 // Stores two numbers in one word of the record, where the record reaches that far.
 pub fn note(record: &mut [u64], at: usize, low: usize, high: usize)
-    requires { ⌜ (low < 65536) × (high < 65536) ⌝ }
+    requires { ⌜ (low < pairFactor) × (high < pairFactor) ⌝ }
     ensures { λ _. ⌜ now («record» .exit) ≡ set (now («record» .entry)) at (packed low high) ⌝ }
 {
     if at < record.len() {

@@ -8,6 +8,7 @@ use mathlib.Core.List.{List, [], _∷_, _++_}
 use lib.ListN.{length, take, drop, length-drop, take-append-drop}
 use lib.Seq.{take-at, drop-at, length-take-le}
 use Rattle.lists.proofs.Grown.{All, grown-length, grown-all}
+use Rattle.packing.specs.Packing.{pairFactor}
 use Rattle.packing.proofs.PackingLaws.{low-packed, high-packed, packed-numbers}
 use Rattle.settings.specs.Settings.{Settings}
 use Rattle.columns.specs.Columns.{Work, picks}
@@ -30,12 +31,12 @@ length-visit v = omega (arith, length-picks (v .columns))
 
 -- the first column has 16 bits
 abbrev pub LowPicks : List Picks → Type 0
-LowPicks = All (λ p. p .col0 .0 < 65536)
+LowPicks = All (λ p. p .col0 .0 < pairFactor)
 
 -- a visit of C columns, whose first row has 16 bits too
 pub record LowVisit (C : ℕ) (v : Visit) : Type 0 where
   pub as-many : length (v .columns) ≡ C
-  pub row0-lt : v .row0 < 65536
+  pub row0-lt : v .row0 < pairFactor
   pub picks-lt : LowPicks (v .columns)
 
 abbrev pub LowVisits : ℕ → List Visit → Type 0
@@ -101,14 +102,14 @@ as-many-visits : (S : Settings) (n : ℕ) (w : Walk) → length (visits S n w) �
 unfolding visits
 as-many-visits S n w = grown-length (λ k. visits S k w) (λ k. visitData S (wander S k w)) refl (λ k. refl) n
 
-below-16-bits : (a n : ℕ) → 0 < n → n ≤ 65536 → a % n < 65536
+below-16-bits : (a n : ℕ) → 0 < n → n ≤ pairFactor → a % n < pairFactor
 below-16-bits a n pos most = omega (arith, mod-lt a pos)
 
 module _ (S : Settings) (h : Packable S) where
   low-picks : (r : Rows) (n : ℕ) (w : Work) → LowPicks (columnPicks S r n w)
   unfolding columnPicks picks
   low-picks r n w =
-      grown-all (λ k. columnPicks S r k w) (λ k. picks S (visitColumns S r k w .state)) refl (λ k. refl) (λ p. p .col0 .0 < 65536)
+      grown-all (λ k. columnPicks S r k w) (λ k. picks S (visitColumns S r k w .state)) refl (λ k. refl) (λ p. p .col0 .0 < pairFactor)
       (λ k. below-16-bits _ (S .columns) (h .columns-pos) (h .columns-most)) n
 
   low-visit : (w : Walk) → LowVisit (S .columns) (visitData S w)

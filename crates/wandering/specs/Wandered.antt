@@ -3,17 +3,18 @@ use mathlib.Core.Path.{_≡_}
 use Prim.Native.Nat.{ℕ, _*_, _≤_, _<_}
 use mathlib.Core.List.{List}
 use Rattle.lists.specs.Zip.{zipAt, putInto}
+use Rattle.packing.specs.Packing.{pairFactor}
 use Rattle.settings.specs.Settings.{Settings}
 use Rattle.settings.specs.Sizes.{matrixWords}
 use Rattle.wandering.specs.Visits.{Walk, visit, wander, visitData, visits}
 use Rattle.wandering.specs.Encoding.{encodeVisit, encode}
 
--- there are rows and columns, and their numbers have 16 bits, so that two of them go into a word
+-- there are rows and columns, and their numbers are below the factor, so that a word tells two of them
 pub record Packable (S : Settings) : Type 0 where
   pub rows-pos : 0 < S .rows
-  pub rows-most : S .rows ≤ 65536
+  pub rows-most : S .rows ≤ pairFactor
   pub columns-pos : 0 < S .columns
-  pub columns-most : S .columns ≤ 65536
+  pub columns-most : S .columns ≤ pairFactor
 
 -- the previous rows are rows, and a matrix of so many words has room for all of them
 pub record Ready (S : Settings) (prev0 prev1 words : ℕ) : Type 0 where
