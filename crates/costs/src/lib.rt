@@ -7,7 +7,8 @@ use settings::Parameters;
 ghost use mathlib.Core.Path.{_≡_};
 ghost use Prim.Native.Nat.{_+_, _*_, _≤_, _<_, _^_};
 ghost use Rattle.settings.specs.Settings.{settings};
-ghost use Rattle.refusals.specs.Checks.{first, costChecks, Accepted};
+ghost use Rattle.refusals.specs.Checks.{first, lengthChecks, costChecks, Accepted};
+ghost use Rattle.derivation.specs.Cost.{fullCost};
 ghost use Rattle.derivation.specs.Answers.{spentOn, noCosts, costs, costAnswer};
 
 // The numbers in the input.
@@ -38,6 +39,14 @@ pub fn refused(number: u32) -> Costs
     }
 }
 
+// The full calls that a derivation makes, whatever its T, R and C.
+pub fn full_calls(l: Lengths) -> u64
+    requires { ⌜ Accepted (lengthChecks l) ⌝ }
+    ensures { λ r. ⌜ r ≡ fullCost l ⌝ }
+{
+    (input::block_count(l.password, l.salt, NUMBERS) + key::piece_count(l.key)) as u64
+}
+
 // The reduced calls of Setup and T rounds of visits over so many cells.
 fn reduced_calls(cells: usize, time: usize) -> usize
     requires { ⌜ (time ≤ 255) × (cells * (time + 1) < 2 ^ 32) ⌝ }
@@ -52,9 +61,9 @@ fn cost_accepted(l: Lengths, p: Parameters) -> Costs
     requires { ⌜ Accepted (costChecks l p) ⌝ }
     ensures { λ r. ⌜ r ≡ costs l p ⌝ }
 {
-    let full = input::block_count(l.password, l.salt, NUMBERS) + key::piece_count(l.key);
+    let full = full_calls(l);
     let reduced = reduced_calls(p.rows * p.columns, p.time);
-    spent(full as u64, reduced as u64, p)
+    spent(full, reduced as u64, p)
 }
 
 // The cost question: what a derivation spends, from the lengths of key, password and salt, T, R and C.

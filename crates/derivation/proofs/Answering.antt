@@ -10,13 +10,17 @@ use Rattle.padded_input.specs.Padded.{blocks}
 use Rattle.input.specs.Input.{inputBlocks}
 use Rattle.key.specs.Key.{pieces, callsBetween}
 use Rattle.key.proofs.KeyLaws.{pieces-calls}
-use Rattle.refusals.specs.Checks.{Accepted, costChecks}
+use Rattle.refusals.specs.Checks.{Accepted, lengthChecks, costChecks}
 use Rattle.refusals.proofs.Accepted.{cells-most}
 use Rattle.refusals.proofs.Answered.{answered-number}
 pub use Rattle.refusals.proofs.Answered.{answered-yes, answered-no, answered-is}
 use Rattle.derivation.specs.Answers.{spentOn, noCosts, costs, costAnswer}
 use Rattle.derivation.specs.declared.Costs.{Costs}
 use Rattle.derivation.specs.Cost.{fullCost, reducedCost}
+
+pub full-most : (l : Lengths) → Accepted (lengthChecks l) → fullCost l ≤ 64
+unfolding fullCost inputBlocks blocks pieces
+full-most l h = omega arith
 
 module _ (l : Lengths) (p : Parameters) where
   pub cost-no : {n number : ℕ} {r : Costs} → number ≡ n → (number ≡ 0 → ⊥) → r ≡ noCosts number → r ≡ costAnswer n l p
@@ -37,10 +41,6 @@ module _ (l : Lengths) (p : Parameters) where
 
   -- ---- the counts of an accepted call
   module _ (h : Accepted (costChecks l p)) where
-    pub full-most : fullCost l ≤ 64
-    unfolding fullCost inputBlocks blocks pieces costChecks
-    full-most = omega arith
-
     pub reduced-most : reducedCost (settings p) ≤ 1073741824
     unfolding costChecks
     reduced-most =

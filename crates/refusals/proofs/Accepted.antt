@@ -8,7 +8,7 @@ use mathlib.Core.Logic.{_≢_}
 use mathlib.Core.Bool.{Bool, true, false, cond, _||_, true≢false}
 use mathlib.Core.List.{List, [], _∷_, _++_}
 use lib.Dec.{ltb}
-use borrow.Author.Tests.{ltb-false}
+use borrow.Author.Tests.{ltb-false, le-ltb}
 use Rattle.settings.specs.declared.Parameters.{Parameters}
 use Rattle.settings.specs.declared.Lengths.{Lengths}
 use Rattle.refusals.proofs.Answered.{answered-yes, answered-no}
@@ -42,6 +42,15 @@ unfolding first
 accepted [] h e = tt
 accepted (c ∷ cs) h e =
     let p = passed (refuses c) (c .number) (first cs) (h .0) e in (kept (c .bounds) (p .0), accepted cs (h .1) (p .1))
+
+unbroken : (bounds : List Bound) → Kept bounds → broken bounds ≡ false
+unbroken [] k = refl
+unbroken (a ≤? b ∷ bounds) k = λ i. le-ltb b a (k .0) i || unbroken bounds (k .1) i
+
+pub accepts : (cs : List Check) → Accepted cs → first cs ≡ 0
+unfolding first
+accepts [] h = refl
+accepts (c ∷ cs) h = ap (λ (b : Bool). cond b (c .number) (first cs)) (unbroken (c .bounds) (h .0)) ∙ accepts cs (h .1)
 
 -- a check by itself
 module _ (c : Check) (cs : List Check) where

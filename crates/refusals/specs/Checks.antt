@@ -69,6 +69,19 @@ Accepted (c ∷ cs) = Kept (c .bounds) × Accepted cs
 
 -- ---- the table: each check by its number, with its limits
 
+-- limits that more than their check goes by
+abbrev pub maxTime : ℕ
+maxTime = 255
+
+abbrev pub minRows : ℕ
+minRows = 3
+
+abbrev pub maxRows : ℕ
+maxRows = 16384
+
+abbrev pub maxColumns : ℕ
+maxColumns = 256
+
 abbrev pub keyCheck : ℕ → Check
 keyCheck = range 1 1 1024
 
@@ -82,13 +95,13 @@ abbrev pub longSaltCheck : ℕ → Check
 longSaltCheck = range 10 0 64
 
 abbrev pub timeCheck : ℕ → Check
-timeCheck = range 4 0 255
+timeCheck = range 4 0 maxTime
 
 abbrev pub rowsCheck : ℕ → Check
-rowsCheck = range 5 3 16384
+rowsCheck = range 5 minRows maxRows
 
 abbrev pub columnsCheck : ℕ → Check
-columnsCheck = range 6 1 256
+columnsCheck = range 6 1 maxColumns
 
 -- ρ and ω (request 106)
 abbrev pub roundsCheck : ℕ → Check
@@ -114,13 +127,27 @@ formCheck = holds 11
 abbrev pub outputCheck : List Bound → Check
 outputCheck bounds = record { number = 12; bounds = bounds }
 
+-- how many column counts may be tried, and how many cells a matrix may have at most, where costs are chosen (request 109)
+abbrev pub triesCheck : ℕ → Check
+triesCheck = atLeast 15 1
+
+abbrev pub cellsCheck : ℕ → Check
+cellsCheck = atLeast 16 minRows
+
 -- ---- the operations, each with its checks in their order
+
+-- the lengths, which come first
+abbrev pub lengthChecks : Lengths → List Check
+lengthChecks l = keyCheck (l .key) ∷ passwordCheck (l .password) ∷ shortSaltCheck (l .salt) ∷ longSaltCheck (l .salt) ∷ []
 
 -- the cost question
 unfoldable pub costChecks : Lengths → Parameters → List Check
 costChecks l p =
-    keyCheck (l .key) ∷ passwordCheck (l .password) ∷ shortSaltCheck (l .salt) ∷ longSaltCheck (l .salt)
-    ∷ timeCheck (p .time) ∷ rowsCheck (p .rows) ∷ columnsCheck (p .columns) ∷ roundsCheck (p .rounds) ∷ []
+    lengthChecks l ++ (timeCheck (p .time) ∷ rowsCheck (p .rows) ∷ columnsCheck (p .columns) ∷ roundsCheck (p .rounds) ∷ [])
+
+-- the choice of costs: ρ, the column counts that may be tried, and the cells that fit
+unfoldable pub choiceChecks : Lengths → ℕ → ℕ → ℕ → List Check
+choiceChecks l rounds tries cells = lengthChecks l ++ (roundsCheck rounds ∷ triesCheck tries ∷ cellsCheck cells ∷ [])
 
 -- the plain derivation and the check of a key: ω and the words of the lent matrix too
 unfoldable pub plainChecks : Lengths → Parameters → ℕ → List Check

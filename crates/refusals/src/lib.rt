@@ -35,6 +35,10 @@ pub const ROUND_COUNT: u32 = 13;
 
 pub const ROTATION: u32 = 14;
 
+pub const TRY_COUNT: u32 = 15;
+
+pub const NOTHING_FITS: u32 = 16;
+
 pub const MAX_KEY: usize = 1024;
 
 pub const MAX_PASSWORD: usize = 1024;

@@ -74,7 +74,7 @@ module _ (l : Lengths) (p : Parameters) (words : ℕ) (h : Accepted (plainChecks
   -- the counts are far below a word
   pub counts-fit : (full + between ≤ 64) × (reduced ≤ 1073741824) × (p .rounds ≤ 12)
   unfolding plainChecks costChecks
-  counts-fit = (omega (arith, full-is, full-most l p checks), omega (arith, walked, reduced-most l p checks), omega arith)
+  counts-fit = (omega (arith, full-is, full-most l (omega arith)), omega (arith, walked, reduced-most l p checks), omega arith)
 
   pub costs-after : {c : Costs} → c ≡ spentOn (settings p) (full + between) reduced → c ≡ costs l p
   unfolding costs
