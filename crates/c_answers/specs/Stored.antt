@@ -8,6 +8,8 @@ use Rattle.settings.specs.declared.Parameters.{Parameters}
 use Rattle.settings.specs.declared.StoredParameters.{StoredParameters}
 use Rattle.settings.specs.declared.Lengths.{Lengths}
 use Rattle.derivation.specs.declared.Costs.{Costs}
+use Rattle.choice.specs.declared.Limits.{Limits}
+use Rattle.choice.specs.declared.Choice.{Choice}
 use Rattle.line_form.specs.declared.LineValues.{LineValues}
 use Rattle.line_form.specs.declared.LineLength.{LineLength}
 
@@ -24,6 +26,20 @@ lengthsOf key password salt = record { key = key; password = password; salt = sa
 -- the costs that a returned number and three stored counts are
 abbrev pub stored : ℕ → List ℕ → Costs
 stored number counts = record { refusal = number; full = getD counts 0 0; reduced = getD counts 1 0; rounds = getD counts 2 0 }
+
+abbrev pub limitsOf : ℕ → ℕ → ℕ → ℕ → Limits
+limitsOf words budget rounds tries = record { words = words; budget = budget; rounds = rounds; tries = tries }
+
+-- the choice that a returned number and four stored numbers are
+abbrev pub storedChoice : ℕ → List ℕ → Choice
+storedChoice number values =
+    record {
+      refusal = number;
+      time = getD values 0 0;
+      rows = getD values 1 0;
+      columns = getD values 2 0;
+      shortfall = getD values 3 0;
+    }
 
 -- the values of a line that a returned number and five stored numbers are
 abbrev pub storedValues : ℕ → List ℕ → LineValues

@@ -1,6 +1,7 @@
 // An answer under a C name: its fields are stored where the caller lends a place for them, zeros where the call was refused, and its
 // number is returned. These functions have no proof file, so that a field left alone is refused for what they ensure.
 use checking::Checked;
+use choice::Choice;
 use derivation::Costs;
 use line_form::LineLength;
 use line_form::LineValues;
@@ -10,7 +11,7 @@ use walk_question::WalkAnswer;
 ghost use mathlib.Core.Path.{_≡_};
 ghost use mathlib.Core.List.{[], _∷_};
 ghost use Rattle.derivation.specs.Answers.{flag as «number-of»};
-ghost use Rattle.c_answers.specs.Stored.{stored as «counts-stored», storedValues, storedLength};
+ghost use Rattle.c_answers.specs.Stored.{stored as «counts-stored», storedChoice, storedValues, storedLength};
 
 // Stores the counts of an answer, and returns its number.
 pub fn store_costs(a: Costs, counts: &mut [u64; 3]) -> u32
@@ -44,6 +45,14 @@ pub fn store_row(a: WalkAnswer, row1: &mut usize) -> u32
     ensures { λ r. ⌜ (r ≡ a .refusal) × (now (row1 .exit) ≡ a .row1) ⌝ }
 {
     *row1 = a.row1;
+    a.refusal
+}
+
+// Stores a choice of costs, and returns the number of the answer.
+pub fn store_choice(a: Choice, values: &mut [usize; 4]) -> u32
+    ensures { λ r. ⌜ storedChoice r (now (values .exit)) ≡ a ⌝ }
+{
+    *values = [a.time, a.rows, a.columns, a.shortfall];
     a.refusal
 }
 

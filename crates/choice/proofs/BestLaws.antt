@@ -112,9 +112,9 @@ module _ (U : ℕ) where
       record {
         most-cells = λ t w. ⊎-elim (λ before. best .most-cells t before) (λ last. le-trans (last .1) h) (last-or-before t w);
         fewest-columns =
-        λ t w e. ⊎-elim (λ before. best .fewest-columns t before e)
-        (λ last. (let some : 0 < cells t = some-cells w in let k : s .columns ≤ n = best .one-of-them (omega arith) .columns-most in omega (arith, last .0)))
-        (last-or-before t w);
+            λ t w e. ⊎-elim (λ before. best .fewest-columns t before e)
+            (λ last. (let some : 0 < cells t = some-cells w in let k : s .columns ≤ n = best .one-of-them (omega arith) .columns-most in omega (arith, last .0)))
+            (last-or-before t w);
         one-of-them = λ some. more (omega arith) (best .one-of-them some);
       }
 

@@ -75,9 +75,10 @@ module _ (l : Lengths) (g : Limits) where
   -- 16 is given exactly where the earlier checks refuse nothing and no triple fits; and that is where U is under 3
   module _ (e : first earlierChecks ≡ 0) where
     pub nothing-fits-below-3 : NothingFits ↔ (cellLimit l g < 3)
-    nothing-fits-below-3 =
-        (λ none. by-contra _ _ (λ more. none 1 three (three-fits (accepted earlierChecks (omega arith) e) (omega arith))),
-        λ below T s fits. (let most = fits-within-limit T s fits in let least = least-cells T s fits in omega (arith, most, least)))
+    nothing-fits-below-3 = (
+      λ none. by-contra _ _ (λ more. none 1 three (three-fits (accepted earlierChecks (omega arith) e) (omega arith))),
+      λ below T s fits. (let most = fits-within-limit T s fits in let least = least-cells T s fits in omega (arith, most, least)),
+    )
 
     given-16 : cellLimit l g < 3 → choiceNumber l g ≡ 16
     unfolding choiceChecks

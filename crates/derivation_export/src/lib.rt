@@ -1,6 +1,7 @@
 // The operations under C names. Each hands on to the proved one and takes its answer apart: the result is 0 or the number of a
 // refusal, and the answer's other fields are stored, zeros where the call was refused. A refusal leaves key, matrix and record as
 // they were.
+use c_answers::store_choice;
 use c_answers::store_costs;
 use c_answers::store_length;
 use c_answers::store_pair;
@@ -8,6 +9,7 @@ use c_answers::store_row;
 use c_answers::store_same;
 use c_answers::store_state;
 use c_answers::store_values;
+use choice::Limits;
 use mixer::Mixer;
 use packing::Pair;
 use profile::Profile;
@@ -24,10 +26,11 @@ ghost use Rattle.input.specs.Input.{input};
 ghost use Rattle.refusals.specs.Checks.{first, costChecks};
 ghost use Rattle.derivation.specs.Answers.{costAnswer};
 ghost use Rattle.derivation.specs.Contracts.{Derived, Compared, Recorded};
+ghost use Rattle.choice.specs.Choice.{choiceAnswer};
 ghost use Rattle.walk_question.specs.Question.{walkAnswer};
 ghost use Rattle.line_form.specs.Contracts.{Read, Written};
 ghost use Rattle.line_writing.specs.Values.{values};
-ghost use Rattle.c_answers.specs.Stored.{parameters, storedParameters, lengthsOf, stored as «counts-stored», storedValues, storedLength};
+ghost use Rattle.c_answers.specs.Stored.{parameters, storedParameters, lengthsOf, limitsOf, stored as «counts-stored», storedChoice, storedValues, storedLength};
 
 // The parameters that a caller gives one by one; the mixer is BlaMka where the last is true.
 fn gathered(
@@ -124,6 +127,34 @@ pub extern "C" fn lyra2_cost(
         mixer: Mixer::Plain,
     };
     store_costs(costs::cost(l, p), counts)
+}
+
+// The choice of costs: T, R, C and the shortfall are stored.
+#[no_mangle]
+pub extern "C" fn lyra2_choose(
+    key: usize,
+    password: usize,
+    salt: usize,
+    words: usize,
+    budget: u64,
+    rounds: usize,
+    tries: usize,
+    values: &mut [usize; 4],
+) -> u32
+    ensures { λ r. ⌜ storedChoice r (now (values .exit)) ≡ choiceAnswer (lengthsOf key password salt) (limitsOf words budget rounds tries) ⌝ }
+{
+    let l = Lengths {
+        key,
+        password,
+        salt,
+    };
+    let g = Limits {
+        words,
+        budget,
+        rounds,
+        tries,
+    };
+    store_choice(choosing::choose(l, g), values)
 }
 
 // The walk question: row1 of the Setup step that fills row0.

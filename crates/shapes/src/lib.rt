@@ -21,7 +21,11 @@ fn better(a: Shape, b: Shape) -> Shape
     requires { ⌜ (cells a < 2 ^ 64) × (cells b < 2 ^ 64) ⌝ }
     ensures { λ r. ⌜ r ≡ better a b ⌝ }
 {
-    if a.rows * a.columns < b.rows * b.columns { b } else { a }
+    if a.rows * a.columns < b.rows * b.columns {
+        b
+    } else {
+        a
+    }
 }
 
 // The best of 1 to n columns.
@@ -29,7 +33,10 @@ pub fn best(limit: usize, n: usize) -> Shape
     requires { ⌜ n ≤ 256 ⌝ }
     ensures { λ r. ⌜ r ≡ bestOf limit n ⌝ }
 {
-    let mut best = Shape { rows: 0, columns: 0 };
+    let mut best = Shape {
+        rows: 0,
+        columns: 0,
+    };
     let mut columns = 0;
     while columns < n {
         columns += 1;

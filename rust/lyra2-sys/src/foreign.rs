@@ -73,6 +73,17 @@ extern "C" {
         counts: *mut [u64; 3],
     ) -> u32;
 
+    pub fn lyra2_choose(
+        key: usize,
+        password: usize,
+        salt: usize,
+        words: usize,
+        budget: u64,
+        rounds: usize,
+        tries: usize,
+        values: *mut [usize; 4],
+    ) -> u32;
+
     pub fn lyra2_record_pair(word: u64, numbers: *mut [u64; 2]);
 
     pub fn lyra2_walk(rows: usize, row0: usize, row1: *mut usize) -> u32;

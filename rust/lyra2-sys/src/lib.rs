@@ -1,8 +1,8 @@
 //! The C interface of the proved library, called with slices.
 //!
 //! Each function returns 0 or the number of a refusal and leaves the places for the answer to the caller, who
-//! can so see what a call does to them: after a refusal `same`, the counts, the state, `row1`, a line's values and its
-//! length are 0, and all other memory is what it was. [`record_pair`] alone refuses nothing and returns its answer.
+//! can so see what a call does to them: after a refusal `same`, the counts, the state, `row1`, the values of a choice and of
+//! a line and a line's length are 0, and all other memory is what it was. [`record_pair`] alone refuses nothing and returns its answer.
 //! The crate `lyra2` turns the numbers into results.
 //!
 //! All functions here are safe to call. The proved functions ask nothing of their arguments, read and write
@@ -62,6 +62,29 @@ pub struct Sizes {
     /// The rounds of a reduced call, ρ.
     pub rounds: usize,
 }
+
+/// The seven numbers that a choice of costs goes by.
+#[derive(Clone, Copy, Debug)]
+pub struct Limits {
+    /// Key length in bytes.
+    pub key: usize,
+    /// Password length in bytes.
+    pub password: usize,
+    /// Salt length in bytes.
+    pub salt: usize,
+    /// The words of the matrix, W.
+    pub words: usize,
+    /// The most rounds that may be spent, B.
+    pub budget: u64,
+    /// The rounds of a reduced call, ρ.
+    pub rounds: usize,
+    /// How many column counts may be tried, N.
+    pub tries: usize,
+}
+
+/// The numbers of a choice of costs: T, R, C and the shortfall, which is how many cells more than R·C any others that fit
+/// can have at most.
+pub type ChoiceValues = [usize; 4];
 
 /// The plain derivation: fills the key, and leaves zeros in the used matrix.
 pub fn derive(input: Input, key: &mut [u8], matrix: &mut [u64], counts: &mut Counts) -> u32 {
@@ -169,6 +192,23 @@ pub fn cost(sizes: Sizes, counts: &mut Counts) -> u32 {
             sizes.columns,
             sizes.rounds,
             counts,
+        )
+    }
+}
+
+/// The choice of costs: `values` becomes T, R, C and the shortfall, all 0 where the call is refused.
+pub fn choose(limits: Limits, values: &mut ChoiceValues) -> u32 {
+    // SAFETY: the pointer is to four numbers that this call alone borrows; the rest are numbers.
+    unsafe {
+        foreign::lyra2_choose(
+            limits.key,
+            limits.password,
+            limits.salt,
+            limits.words,
+            limits.budget,
+            limits.rounds,
+            limits.tries,
+            values,
         )
     }
 }

@@ -15,7 +15,7 @@ returns c =
     let pre = start .pre in
     let full : _ ≡ fullSpent (a .l) = c .before .before .full-spent .ensures in
     let time : _ ≡ min ((g .budget - fullSpent (a .l)) / (g .rounds * cells (a .s)) - 1) 255 =
-        c .smaller .ensures ∙ ap (λ (n : ℕ). min ((g .budget - n) / (g .rounds * cells (a .s)) - 1) 255) full in
+    c .smaller .ensures ∙ ap (λ (n : ℕ). min ((g .budget - n) / (g .rounds * cells (a .s)) - 1) 255) full in
     time ∙ time-is (a .l) g (a .s) (pre .1) (pre .4)
 
 pub time-for-spec : {M : Type 1} → statement M

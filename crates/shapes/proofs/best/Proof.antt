@@ -30,9 +30,10 @@ loop-again : tie.Need-loop-again Inv-loop μ-loop
 loop-again c =
     let limit = c .before .before .before .before .args .limit in
     let at = c .before .before .before .loop in
-    let rows : _ ≡ rowsFor limit (at .columns + 1) = c .before .rows-for .ensures in
-    (omega arith,
-    c .better .ensures ∙ (λ i. better (at .inv .1 i) (shape (rows i) (at .columns + 1))) ∙ sym (best-more limit (at .columns)))
+    let rows : _ ≡ rowsFor limit (at .columns + 1) = c .before .rows-for .ensures in (
+      omega arith,
+      c .better .ensures ∙ (λ i. better (at .inv .1 i) (shape (rows i) (at .columns + 1))) ∙ sym (best-more limit (at .columns)),
+    )
 
 pub best-spec : {M : Type 1} → statement M
 best-spec =
