@@ -6,9 +6,8 @@ use refusals::MAX_COLUMNS;
 use refusals::MAX_ROWS;
 use settings::Lengths;
 ghost use mathlib.Core.Path.{_≡_};
-ghost use mathlib.Core.List.{[], _∷_, _++_};
 ghost use Prim.Native.Nat.{min};
-ghost use Rattle.refusals.specs.Checks.{Accepted, lengthChecks, roundsCheck};
+ghost use Rattle.refusals.specs.Checks.{Accepted, lengthChecks, givenChecks};
 ghost use Rattle.choice.specs.Choice.{fullSpent, cellLimit};
 
 pub fn smaller(a: usize, b: usize) -> usize
@@ -27,7 +26,7 @@ pub fn full_spent(l: Lengths) -> u64
 
 // With T = 1 each cell has two reduced calls, one of Setup and one of a visit.
 pub fn cell_limit(l: Lengths, g: Limits) -> usize
-    requires { ⌜ Accepted (lengthChecks l ++ (roundsCheck (g .rounds) ∷ [])) ⌝ }
+    requires { ⌜ Accepted (givenChecks l (g .rounds)) ⌝ }
     ensures { λ r. ⌜ r ≡ cellLimit l g ⌝ }
 {
     let full = full_spent(l);

@@ -9,7 +9,7 @@ use native.Mathlib.Nat.{le-trans, le-antisymm, le-of-suc-le-suc, mul-le-mul-righ
 use lib.Dec.{ltb, leb}
 use borrow.Author.Tests.{ltb-true, ltb-false, leb-true, leb-false, lt-ltb, le-ltb}
 use Rattle.choice.specs.Choice.{cells, rowsFor, shapeFor, better, bestOf}
-use Rattle.choice.specs.Fitting.{Within}
+use Rattle.choice.specs.Fitting.{Within, Best}
 use Rattle.choice.specs.declared.Shape.{Shape}
 use Rattle.choice.proofs.GreatestLaws.{greatest-found, greatest-above, greatest-is, greatest-none}
 
@@ -75,11 +75,6 @@ module _ (U : ℕ) where
 
   -- ---- all of them
 
-  pub record Best (n : ℕ) (s : Shape) : Type 0 where
-    pub most-cells : (t : Shape) → Within U n t → cells t ≤ cells s
-    pub fewest-columns : (t : Shape) → Within U n t → cells t ≡ cells s → s .columns ≤ t .columns
-    pub one-of-them : 0 < cells s → Within U n s
-
   fewer : {n : ℕ} {s : Shape} → s .columns ≤ n → Within U (suc n) s → Within U n s
   fewer h w =
       record { rows-least = w .rows-least; rows-most = w .rows-most; columns-least = w .columns-least; columns-most = h; cells-most = w .cells-most }
@@ -99,7 +94,7 @@ module _ (U : ℕ) where
           let is : t .columns ≡ suc n = omega (arith, w .columns-most) in
           inr (is, tried-most (suc n) t w is)
 
-  best-second : (n : ℕ) (s : Shape) → Best n s → cells s < cells (shapeFor U (suc n)) → Best (suc n) (shapeFor U (suc n))
+  best-second : (n : ℕ) (s : Shape) → Best U n s → cells s < cells (shapeFor U (suc n)) → Best U (suc n) (shapeFor U (suc n))
   best-second n s best h =
       record {
         most-cells = λ t w. ⊎-elim (λ before. (let k : cells t ≤ cells s = best .most-cells t before in omega arith)) (λ last. last .1) (last-or-before t w);
@@ -107,7 +102,7 @@ module _ (U : ℕ) where
         one-of-them = λ some. tried-within (suc n) (omega arith) (some-rows (shapeFor U (suc n)) some);
       }
 
-  best-first : (n : ℕ) (s : Shape) → Best n s → cells (shapeFor U (suc n)) ≤ cells s → Best (suc n) s
+  best-first : (n : ℕ) (s : Shape) → Best U n s → cells (shapeFor U (suc n)) ≤ cells s → Best U (suc n) s
   best-first n s best h =
       record {
         most-cells = λ t w. ⊎-elim (λ before. best .most-cells t before) (λ last. le-trans (last .1) h) (last-or-before t w);
@@ -118,7 +113,7 @@ module _ (U : ℕ) where
         one-of-them = λ some. more (omega arith) (best .one-of-them some);
       }
 
-  pub best-is : (n : ℕ) → Best n (bestOf U n)
+  pub best-is : (n : ℕ) → Best U n (bestOf U n)
   unfolding bestOf
   best-is zero =
       record {
@@ -128,9 +123,9 @@ module _ (U : ℕ) where
       }
   best-is (suc n) = go (ltb (cells (bestOf U n)) (cells (shapeFor U (suc n)))) refl (best-is n)
     where
-      go : (b : Bool) → ltb (cells (bestOf U n)) (cells (shapeFor U (suc n))) ≡ b → Best n (bestOf U n) → Best (suc n) (better (bestOf U n) (shapeFor U (suc n)))
-      go true e best = let h = ltb-true _ _ e in subst (Best (suc n)) (sym (better-second _ _ h)) (best-second n _ best h)
-      go false e best = let h = ltb-false _ _ e in subst (Best (suc n)) (sym (better-first _ _ h)) (best-first n _ best h)
+      go : (b : Bool) → ltb (cells (bestOf U n)) (cells (shapeFor U (suc n))) ≡ b → Best U n (bestOf U n) → Best U (suc n) (better (bestOf U n) (shapeFor U (suc n)))
+      go true e best = let h = ltb-true _ _ e in subst (Best U (suc n)) (sym (better-second _ _ h)) (best-second n _ best h)
+      go false e best = let h = ltb-false _ _ e in subst (Best U (suc n)) (sym (better-first _ _ h)) (best-first n _ best h)
 
   pub best-cells-most : (n : ℕ) → cells (bestOf U n) ≤ U
   best-cells-most n =

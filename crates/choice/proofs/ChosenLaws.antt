@@ -7,13 +7,13 @@ use Rattle.settings.specs.declared.Lengths.{Lengths}
 use Rattle.refusals.specs.Checks.{Accepted, choiceChecks}
 use Rattle.refusals.proofs.Accepted.{accepted}
 use Rattle.choice.specs.Choice.{spends, cellLimit, cells, bestOf, tried, timeFor, choiceNumber}
-use Rattle.choice.specs.Fitting.{Within}
+use Rattle.choice.specs.Fitting.{Within, Best}
 use Rattle.choice.specs.declared.Limits.{Limits}
 use Rattle.choice.specs.declared.Shape.{Shape}
 use Rattle.choice.proofs.GreatestLaws.{Found, greatest-found, greatest-above}
 use Rattle.choice.proofs.LimitLaws.{limit-holds}
 use Rattle.choice.proofs.TimeLaws.{spends-is}
-use Rattle.choice.proofs.BestLaws.{Best, best-is}
+use Rattle.choice.proofs.BestLaws.{best-is}
 
 -- three cells in one column are the least that can fit
 abbrev pub three : Shape

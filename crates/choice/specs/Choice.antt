@@ -26,11 +26,17 @@ spends l g T s = costs l (triple g T (s .rows) (s .columns)) .rounds
 abbrev pub fullSpent : Lengths → ℕ
 fullSpent l = fullRounds * fullCost l
 
--- document 02's U, a bound on the cells: T = 1 makes two reduced calls a cell
+-- the rounds of a cell with T = 1: a reduced call of Setup and one of a visit
+abbrev pub cellSpent : Limits → ℕ
+cellSpent g = 2 * g .rounds
+
+-- the most cells that the words, the rounds and the limits of R and C leave
+abbrev pub smallest : Lengths → Limits → ℕ
+smallest l g = min (g .words / cellWords) (min ((g .budget - fullSpent l) / cellSpent g) (maxRows * maxColumns))
+
+-- document 02's U, the bound on the cells: 0 where not even the full calls are inside B
 unfoldable pub cellLimit : Lengths → Limits → ℕ
-cellLimit l g =
-    cond (ltb (g .budget) (fullSpent l)) 0
-    (min (g .words / cellWords) (min ((g .budget - fullSpent l) / (2 * g .rounds)) (maxRows * maxColumns)))
+cellLimit l g = cond (ltb (g .budget) (fullSpent l)) 0 (smallest l g)
 
 abbrev pub cells : Shape → ℕ
 cells s = s .rows * s .columns

@@ -145,9 +145,12 @@ unfoldable pub costChecks : Lengths → Parameters → List Check
 costChecks l p =
     lengthChecks l ++ (timeCheck (p .time) ∷ rowsCheck (p .rows) ∷ columnsCheck (p .columns) ∷ roundsCheck (p .rounds) ∷ [])
 
--- the choice of costs: ρ, the column counts that may be tried, and the cells that fit
+-- the choice of costs: the lengths and ρ, which are given, then the column counts that may be tried, and the cells that fit
+abbrev pub givenChecks : Lengths → ℕ → List Check
+givenChecks l rounds = lengthChecks l ++ (roundsCheck rounds ∷ [])
+
 unfoldable pub choiceChecks : Lengths → ℕ → ℕ → ℕ → List Check
-choiceChecks l rounds tries cells = lengthChecks l ++ (roundsCheck rounds ∷ triesCheck tries ∷ cellsCheck cells ∷ [])
+choiceChecks l rounds tries cells = givenChecks l rounds ++ (triesCheck tries ∷ cellsCheck cells ∷ [])
 
 -- the plain derivation and the check of a key: ω and the words of the lent matrix too
 unfoldable pub plainChecks : Lengths → Parameters → ℕ → List Check

@@ -20,9 +20,10 @@ returns-2 c =
     let g = a .g in
     let full : _ ≡ fullSpent (a .l) = start .full-spent .ensures in
     let enough : fullSpent (a .l) ≤ g .budget = omega (arith, full, c .before .before .before .before .before .if1 .left) in
-    let rounds : _ ≡ min ((g .budget - fullSpent (a .l)) / (2 * g .rounds)) 4194304 =
-    c .before .smaller .ensures ∙ ap (λ (n : ℕ). min ((g .budget - n) / (2 * g .rounds)) 4194304) full in
-    c .smaller2 .ensures ∙ ap (λ (n : ℕ). min (g .words / 12) n) rounds ∙ sym (limit-some (a .l) g enough)
+    let rounds : _ ≡ min ((g .budget - start .full-spent .result) / (2 * g .rounds)) 4194304 = c .before .smaller .ensures in
+    let all : _ ≡ min (g .words / 12) (c .before .smaller .result) = c .smaller2 .ensures in
+    all ∙ ap (λ (n : ℕ). min (g .words / 12) n) (rounds ∙ ap (λ (n : ℕ). min ((g .budget - n) / (2 * g .rounds)) 4194304) full)
+    ∙ sym (limit-some (a .l) g enough)
 
 pub cell-limit-spec : {M : Type 1} → statement M
 cell-limit-spec =

@@ -14,9 +14,8 @@ returns c =
     let g = a .g in
     let pre = start .pre in
     let full : _ ≡ fullSpent (a .l) = c .before .before .full-spent .ensures in
-    let time : _ ≡ min ((g .budget - fullSpent (a .l)) / (g .rounds * cells (a .s)) - 1) 255 =
-    c .smaller .ensures ∙ ap (λ (n : ℕ). min ((g .budget - n) / (g .rounds * cells (a .s)) - 1) 255) full in
-    time ∙ time-is (a .l) g (a .s) (pre .1) (pre .4)
+    let time : _ ≡ min ((g .budget - c .before .before .full-spent .result) / (g .rounds * cells (a .s)) - 1) 255 = c .smaller .ensures in
+    time ∙ ap (λ (n : ℕ). min ((g .budget - n) / (g .rounds * cells (a .s)) - 1) 255) full ∙ time-is (a .l) g (a .s) (pre .1) (pre .4)
 
 pub time-for-spec : {M : Type 1} → statement M
 time-for-spec =
@@ -25,10 +24,9 @@ time-for-spec =
     (λ c. let start = c .before .before .before .before in omega (arith, c .before .full-spent .ensures, spends-is (start .args .l) (start .args .g) 1 (start .args .s), start .pre .4))
     (omega arith)
     (λ c.
-    let start = c .before .before .before .before in
-    let a = start .args in
-    let g = a .g in
+    let begun = c .before .before .before .before in
+    let a = begun .args in
     let full : _ ≡ fullSpent (a .l) = c .before .full-spent .ensures in
-    let turns = ap (λ (n : ℕ). (g .budget - n) / (g .rounds * cells (a .s))) full in
-    omega (arith, turns, two-turns (a .l) g (a .s) (start .pre .1) (start .pre .4)))
+    let turns = ap (λ (n : ℕ). (a .g .budget - n) / (a .g .rounds * cells (a .s))) full in
+    omega (arith, turns, two-turns (a .l) (a .g) (a .s) (begun .pre .1) (begun .pre .4)))
     (omega arith) returns)
