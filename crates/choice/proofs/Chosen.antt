@@ -1,23 +1,22 @@
 -- What is promised of the choice of costs (request 109): how far the answer is from any triple that fits, when there is none, that the answer
 -- itself fits with the greatest T, and that it is the best of what was tried. Assumes nothing.
 use mathlib.Core.Path.{_≡_, refl, sym, ap, subst, _∙_}
-use mathlib.Core.Bool.{true}
-use mathlib.Core.List.{List, [], _∷_, _++_}
+use mathlib.Core.List.{[], _∷_}
 use mathlib.Core.Logic.{_↔_}
-use Prim.Native.Nat.{ℕ, _+_, _-_, _*_, _≤_, _<_, min}
+use Prim.Native.Nat.{ℕ, _+_, _*_, _≤_, _<_}
 use native.Mathlib.Omega.{arith, by-contra}
-use native.Mathlib.Nat.{le-trans, mul-le-mul-left, mul-le-mul-right, le-min, min-le-right, min-eq-right}
+use native.Mathlib.Nat.{le-trans, mul-le-mul-left, mul-le-mul-right, min-le-right, min-eq-right}
 use borrow.Author.Tests.{ltb-true, lt-ltb}
 use Rattle.settings.specs.declared.Lengths.{Lengths}
 use Rattle.refusals.specs.Checks.{Check, Accepted, first, costChecks, givenChecks, triesCheck, cellsCheck, choiceChecks}
 use Rattle.refusals.proofs.Accepted.{accepted, accepts, alone, first-before, first-last, first-refused, more-pass, cells-most}
 use Rattle.refusals.proofs.Answered.{answered-is, answered-number}
-use Rattle.choice.specs.Choice.{triple, spends, fullSpent, cellLimit, cells, bestOf, tried, timeFor, chosen, noChoice, choiceNumber, choiceAnswer}
+use Rattle.choice.specs.Choice.{triple, spends, cellLimit, cells, tried, timeFor, chosen, noChoice, choiceNumber, choiceAnswer}
 use Rattle.choice.specs.Fitting.{Within, Best, Fits, NothingFits, earlierChecks, shapeOf}
 use Rattle.choice.specs.declared.Limits.{Limits}
 use Rattle.choice.specs.declared.Shape.{Shape}
 use Rattle.choice.specs.declared.Choice.{Choice}
-use Rattle.choice.proofs.GreatestLaws.{Found, greatest-found, greatest-above}
+use Rattle.choice.proofs.GreatestLaws.{greatest-above}
 use Rattle.choice.proofs.LimitLaws.{limit-holds, limit-most}
 use Rattle.choice.proofs.TimeLaws.{spends-is}
 use Rattle.choice.proofs.BestLaws.{cells-least}

@@ -1,11 +1,11 @@
 -- The greatest T inside the rounds, as a division finds it. Assumes nothing.
-use mathlib.Core.Path.{_≡_, refl}
+use mathlib.Core.Path.{_≡_}
 use Prim.Native.Nat.{ℕ, _+_, _-_, _*_, _/_, _≤_, _<_, min}
 use native.Mathlib.Omega.{arith, by-contra}
 use native.Mathlib.Nat.{le-min, min-le-left, min-le-right, le-div-iff-mul-le, div-lt-iff-lt-mul}
 use Rattle.settings.specs.declared.Lengths.{Lengths}
-use Rattle.derivation.specs.Answers.{spentOn, costs}
-use Rattle.choice.specs.Choice.{spends, fullSpent, cells, timeFor}
+use Rattle.derivation.proofs.Answering.{rounds-spent}
+use Rattle.choice.specs.Choice.{triple, spends, fullSpent, cells, timeFor}
 use Rattle.choice.specs.declared.Limits.{Limits}
 use Rattle.choice.specs.declared.Shape.{Shape}
 use Rattle.choice.proofs.GreatestLaws.{greatest-is}
@@ -13,8 +13,8 @@ use Rattle.choice.proofs.GreatestLaws.{greatest-is}
 module _ (l : Lengths) (g : Limits) where
   -- the rounds spent, written out
   pub spends-is : (T : ℕ) (s : Shape) → spends l g T s ≡ fullSpent l + g .rounds * (cells s * (T + 1))
-  unfolding spends costs spentOn
-  spends-is T s = refl
+  unfolding spends
+  spends-is T s = rounds-spent l (triple g T (s .rows) (s .columns))
 
   module _ (s : Shape) (some : 1 ≤ g .rounds * cells s) (once : spends l g 1 s ≤ g .budget) where
     -- how often the cells can be called for

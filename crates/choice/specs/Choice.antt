@@ -1,5 +1,5 @@
 -- The choice of T, R and C within W words of a matrix and B rounds spent.
-use Prim.Native.Nat.{ℕ, zero, suc, _+_, _-_, _*_, _/_, min}
+use Prim.Native.Nat.{ℕ, zero, suc, _-_, _*_, _/_, min}
 use mathlib.Core.Bool.{cond}
 use lib.Dec.{ltb}
 use Rattle.mixer.specs.declared.Mixer.the-variants.{Plain}

@@ -10,7 +10,7 @@ use mathlib.Core.List.{List, [], _∷_, _++_}
 use lib.Dec.{ltb, leb, eqb}
 use lib.ListN.{length, getD, take, length-append, length-take, List·getD-append}
 use lib.Seq.{take-suc, take-all, getD-take}
-use borrow.Author.Tests.{lt-ltb, le-ltb, le-leb, leb-true, eqb-true, ne-eqb, eqb-false, eq-eqb}
+use borrow.Author.Tests.{lt-ltb, le-ltb, le-leb, leb-true, ne-eqb, eq-eqb}
 use Rattle.lists.proofs.EveryLaws.{every-at, every-all, every-append}
 use Rattle.lists.specs.Every.{every}
 use Rattle.decimal.specs.Decimal.{decimalUpTo, decimal, isDigit, allDigits, isNumber, numberFrom, numberOf}

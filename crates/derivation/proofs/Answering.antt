@@ -16,7 +16,7 @@ use Rattle.refusals.proofs.Answered.{answered-number}
 pub use Rattle.refusals.proofs.Answered.{answered-yes, answered-no, answered-is}
 use Rattle.derivation.specs.Answers.{spentOn, noCosts, costs, costAnswer}
 use Rattle.derivation.specs.declared.Costs.{Costs}
-use Rattle.derivation.specs.Cost.{fullCost, reducedCost}
+use Rattle.derivation.specs.Cost.{fullCost, reducedCost, roundsCost}
 
 pub full-most : (l : Lengths) → Accepted (lengthChecks l) → fullCost l ≤ 64
 unfolding fullCost inputBlocks blocks pieces
@@ -30,6 +30,11 @@ module _ (l : Lengths) (p : Parameters) where
   pub cost-yes : {n : ℕ} {r : Costs} → n ≡ 0 → r ≡ costs l p → r ≡ costAnswer n l p
   unfolding costAnswer
   cost-yes h f = answered-yes _ _ h f
+
+  -- the rounds spent, written out
+  pub rounds-spent : costs l p .rounds ≡ roundsCost (settings p) (fullCost l) (reducedCost (settings p))
+  unfolding costs spentOn
+  rounds-spent = refl
 
   -- an answer's number is that of the refusal
   pub number-is : (n : ℕ) → costAnswer n l p .refusal ≡ n

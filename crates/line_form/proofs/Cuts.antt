@@ -1,13 +1,12 @@
 -- A text that ends before the first byte of a mark: what is known of a line where the mark stands, and of a line that was joined so.
 -- Assumes nothing.
-use mathlib.Core.Path.{_≡_, refl, sym, ap, ap₂, subst, _∙_}
+use mathlib.Core.Path.{_≡_, refl, sym, ap, ap₂, _∙_}
 use mathlib.Core.Bool.{Bool, true, false, cond, not, and-eq-true-iff}
-use Prim.Native.Nat.{ℕ, zero, suc, _+_, _-_, _≤_, _<_}
-use native.Mathlib.Omega.{arith}
+use Prim.Native.Nat.{ℕ, suc, _+_}
 use mathlib.Core.List.{List, [], _∷_, _++_}
 use lib.Dec.{eqb}
 use lib.ListN.{length, take, drop, take-append-drop}
-use lib.Seq.{drop-drop, take-at, drop-at, take-append-seam, drop-append-seam}
+use lib.Seq.{drop-drop, take-append-seam, drop-append-seam}
 use borrow.Author.Tests.{eq-eqb, not-true}
 use Rattle.lists.specs.Every.{every, sameBytes}
 use Rattle.lists.proofs.EveryLaws.{same-of-equal, equal-of-same}

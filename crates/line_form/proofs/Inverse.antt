@@ -1,24 +1,23 @@
 -- Lines and values are inverse: the line of values is of the form and says these values, and a line of the form is the line of what it
 -- says. So a list of bytes is of the form exactly when it is the line of some values, and these are then the only ones. Assumes nothing.
-use mathlib.Core.Path.{_≡_, refl, sym, ap, ap₂, _∙_}
+use mathlib.Core.Path.{_≡_, refl, sym, ap, _∙_}
 use mathlib.Core.Logic.{_↔_}
-use mathlib.Core.Bool.{Bool, true, false, not, _&&_, and-eq-true-iff}
-use Prim.Native.Nat.{ℕ, _+_, _≤_, _<_}
+use mathlib.Core.Bool.{Bool, true, not, _&&_, and-eq-true-iff}
+use Prim.Native.Nat.{ℕ, _+_, _<_}
 use native.Mathlib.Omega.{arith}
 use mathlib.Core.List.{List, [], _∷_, _++_}
-use lib.ListN.{length, getD, drop}
+use lib.ListN.{length, getD}
 use lib.Dec.{eqb}
 use borrow.Author.Tests.{ne-eqb}
-use Rattle.settings.specs.declared.StoredParameters.{StoredParameters}
 use Rattle.lists.proofs.EveryLaws.{every-at, every-all, same-of-equal}
-use Rattle.decimal.specs.Decimal.{decimal, isDigit, allDigits, isNumber, numberOf}
+use Rattle.decimal.specs.Decimal.{decimal, isDigit, isNumber, numberOf}
 use Rattle.decimal.proofs.Inverse.{digit-bounds, decimal-all-digits, decimal-number, number-decimal, decimal-of}
 use Rattle.base64.specs.Base64.{encode, decode, isText}
 use Rattle.base64.proofs.Elements.{decode-bytes}
 use Rattle.base64.proofs.Texts.{encode-text, text-no-dollar}
 use Rattle.base64.proofs.Inverse.{decode-encode, encode-decode}
 use Rattle.line_form.specs.Line.{Values, Bytes, startMark, rowsMark, columnsMark, textMark, joined, lineOf, timeEnd, rowsEnd, columnsEnd, saltEnd, timeText, rowsText, columnsText, saltText, keyText, standsAt, isMarked, isLine, valuesOf}
-use Rattle.line_form.proofs.Cuts.{lacks, stands, cut, Cut, cut-of}
+use Rattle.line_form.proofs.Cuts.{lacks, stands, cut, cut-of}
 
 -- ---- the parts of the form
 

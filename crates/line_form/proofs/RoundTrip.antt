@@ -2,17 +2,15 @@
 use mathlib.Core.Path.{_≡_, refl, sym, ap, ap₂, subst, _∙_}
 use mathlib.Core.Logic.{_↔_}
 use mathlib.Core.Bool.{Bool, true, false, true≢false, _||_}
-use Prim.Native.Nat.{ℕ, _+_, _≤_, _<_}
+use Prim.Native.Nat.{ℕ, _+_, _≤_}
 use native.Mathlib.Omega.{arith}
 use mathlib.Core.List.{List, [], _∷_, _++_}
 use lib.ListN.{length, take}
 use borrow.Author.Tests.{le-ltb}
-use Rattle.lists.specs.Zip.{putInto}
 use Rattle.lists.proofs.ZipLaws.{put-front}
-use Rattle.settings.specs.declared.StoredParameters.{StoredParameters}
 use Rattle.refusals.specs.Checks.{_≤?_, Check, flag, first, refuses, answered, formCheck, outputCheck, storedChecks}
 use Rattle.refusals.proofs.Accepted.{accepted, first-passed, first-refused, first-none, first-before, first-other, first-last, more-pass}
-use Rattle.refusals.proofs.Answered.{answered-yes, answered-is, answered-number}
+use Rattle.refusals.proofs.Answered.{answered-is, answered-number}
 use Rattle.line_form.specs.Line.{Values, Bytes, lineOf, isLine, valuesOf, lengthBy}
 use Rattle.line_form.specs.Contracts.{valueChecks, readChecks, lineValues, noValues, readAnswer, readNumber, Read, writeChecks, lineLength, noLength, writeNumber, Written}
 use Rattle.line_form.specs.declared.LineValues.{LineValues}

@@ -9,7 +9,6 @@ use mathlib.Core.List.{List, [], _∷_, _++_}
 use lib.Dec.{ltb}
 use lib.ListN.{length}
 use borrow.Author.Tests.{lt-ltb, le-ltb}
-use Rattle.settings.specs.declared.StoredParameters.{StoredParameters}
 use Rattle.refusals.specs.Checks.{_≤?_, Check, broken, refuses, range, flag, first, answered, keyCheck, shortSaltCheck, longSaltCheck, formCheck, outputCheck, storedChecks}
 use Rattle.refusals.proofs.Accepted.{accepted, first-refused, first-passed, first-before, first-joined}
 use Rattle.refusals.proofs.Answered.{answered-yes, answered-no, answered-number}

@@ -1,13 +1,12 @@
 -- The texts of a line as parts of it, and what their forms and lengths are by the ends that were found. Assumes nothing.
 use mathlib.Core.Path.{_≡_, refl, sym, ap, ap₂, _∙_}
-use mathlib.Core.Bool.{Bool, true, false, _&&_, true≢false}
-use Prim.Native.Nat.{ℕ, _+_, _-_, _≤_}
+use mathlib.Core.Bool.{Bool, true, false, true≢false}
+use Prim.Native.Nat.{ℕ, _+_, _-_}
 use native.Mathlib.Omega.{arith}
-use mathlib.Core.List.{List, [], _∷_, _++_}
+use mathlib.Core.List.{List}
 use lib.ListN.{length, take, drop, length-drop}
 use lib.Seq.{take-append-seam, take-all}
-use Rattle.decimal.specs.Decimal.{isNumber}
-use Rattle.base64.specs.Base64.{decode, decodedLength, isText}
+use Rattle.base64.specs.Base64.{decode, decodedLength}
 use Rattle.base64.proofs.Elements.{length-decode}
 use Rattle.line_form.specs.Line.{until, endAt, timeEnd, rowsEnd, columnsEnd, saltEnd, timeText, rowsText, columnsText, saltText, keyText, isLine, valuesOf}
 use Rattle.line_form.specs.Contracts.{lineValues, noValues}

@@ -16,7 +16,7 @@ ghost use Rattle.text.specs.Text.{Appended};
 ghost use Rattle.decimal.specs.Decimal.{decimal};
 ghost use Rattle.base64.specs.Base64.{encodedLength, encode};
 ghost use Rattle.line_form.specs.Line.{textMark, lineOf, lengthBy};
-ghost use Rattle.line_form.specs.Contracts.{Written, lineLength, noLength};
+ghost use Rattle.line_form.specs.Contracts.{Written, noLength};
 ghost use Rattle.line_writing.specs.Values.{values, WithinLimits};
 
 // The bytes of all marks together.

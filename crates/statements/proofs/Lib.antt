@@ -6,3 +6,4 @@ pub mod Independence
 pub mod SameKey
 pub mod NothingLeft
 pub mod SetupAlone
+pub mod ChoiceCases

@@ -1,8 +1,8 @@
 -- `cell_limit` meets its contract: the smallest of the three, or 0 where not even the full calls fit. Assumes nothing.
 use mathlib.Core.Path.{_≡_, sym, ap, _∙_}
-use Prim.Native.Nat.{ℕ, _-_, _*_, _/_, _≤_, _<_, min}
+use Prim.Native.Nat.{ℕ, _-_, _*_, _/_, _≤_, min}
 use native.Mathlib.Omega.{arith}
-use Rattle.choice.specs.Choice.{fullSpent, cellLimit}
+use Rattle.choice.specs.Choice.{fullSpent}
 use Rattle.choice.proofs.LimitLaws.{limit-none, limit-some}
 use Rattle.cell_limit.proofs.cell_limit.Statement.{statement}
 use Rattle.cell_limit.proofs.cell_limit.Tie as tie

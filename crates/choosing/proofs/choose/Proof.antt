@@ -1,5 +1,5 @@
 -- `choose` meets its contract: a refusal, or the choice. Assumes nothing.
-use mathlib.Core.Path.{refl, sym, ap, _∙_}
+use mathlib.Core.Path.{sym, ap, _∙_}
 use native.Mathlib.Omega.{arith}
 use Rattle.refusals.proofs.Answered.{answered-yes, answered-no}
 use Rattle.choice.specs.Choice.{chosen, noChoice, choiceAnswer}

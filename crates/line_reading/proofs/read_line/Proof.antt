@@ -1,7 +1,5 @@
 -- `read_line` meets its contract: what is refused leaves both outputs alone, and what is accepted puts both texts. Assumes nothing.
 use mathlib.Core.Path.{refl, sym, ap, _∙_}
-use mathlib.Core.List.{List}
-use Prim.Native.Nat.{ℕ}
 use native.Mathlib.Omega.{arith}
 use lib.ListN.{length}
 use denote.Ref.{now}

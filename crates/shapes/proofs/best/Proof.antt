@@ -2,7 +2,7 @@
 use mathlib.Core.Path.{_≡_, sym, ap, _∙_}
 use Prim.Native.Nat.{ℕ, _+_, _-_, _*_, _≤_}
 use native.Mathlib.Omega.{arith}
-use Rattle.choice.specs.Choice.{cells, rowsFor, shapeFor, better, bestOf}
+use Rattle.choice.specs.Choice.{cells, rowsFor, better, bestOf}
 use Rattle.choice.specs.declared.Shape.{Shape}
 use Rattle.choice.proofs.BestLaws.{tried-cells-most, best-cells-most, best-none, best-more}
 use Rattle.shapes.proofs.best.Statement.{statement}
