@@ -1,18 +1,20 @@
 //! The proved derivation beside the second program.
 //!
 //! [`Proved`] gives the C interface the form that the vectors file and the second program share, [`compare`] holds it
-//! against that program on random inputs, and [`lines`] on login lines.
+//! against that program on random inputs, [`lines`] on login lines, and [`choices`] on choices of costs.
 
 #![forbid(unsafe_code)]
 #![warn(missing_docs)]
 
+pub mod choices;
 pub mod compare;
 pub mod guarded;
 pub mod lines;
 
 use lyra2_reference::vectors::Subject;
 use lyra2_reference::{
-    Checked, Counts, Inputs, LineParts, LineValues, Mixer, Parameters, Recorded, Refusal,
+    Checked, Choice, Counts, Inputs, Limits, LineParts, LineValues, Mixer, Parameters, Recorded,
+    Refusal,
 };
 
 /// What the places for an answer hold before a call; no accepted call gives such a number.
@@ -50,6 +52,19 @@ pub fn sizes(given: &Parameters, rho: u64) -> lyra2_sys::Sizes {
         rows: size(given.r),
         columns: size(given.c),
         rounds: size(rho),
+    }
+}
+
+/// The second program's limits of a choice as the library takes them.
+pub fn limits(given: &Limits) -> lyra2_sys::Limits {
+    lyra2_sys::Limits {
+        key: size(given.key_len),
+        password: size(given.password_len),
+        salt: size(given.salt_len),
+        words: size(given.matrix_words),
+        budget: given.budget,
+        rounds: size(given.rho),
+        tries: size(given.tries),
     }
 }
 
@@ -152,6 +167,23 @@ impl Subject for Proved {
             assert_eq!(line_len, 0, "the length of a line that is refused");
         }
         Some(accepted(number).map(|()| line_len as u64))
+    }
+
+    fn choose(&self, given: &Limits) -> Option<Result<Choice, Refusal>> {
+        // The four values stand between others, which show whether a call writes beside them.
+        let mut places = [[BEFORE as usize; 4]; 3];
+        let number = lyra2_sys::choose(limits(given), &mut places[1]);
+        let [before, values, after] = places;
+        assert_eq!(
+            [before, after],
+            [[BEFORE as usize; 4]; 2],
+            "beside the values of a choice"
+        );
+        if number != 0 {
+            assert_eq!(values, [0; 4], "the values of a refused choice");
+        }
+        let [t, r, c, shortfall] = values.map(|value| value as u64);
+        Some(accepted(number).map(|()| Choice { t, r, c, shortfall }))
     }
 }
 

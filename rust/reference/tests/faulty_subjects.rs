@@ -9,7 +9,8 @@ use lyra2_reference::refusal::{
 };
 use lyra2_reference::vectors::{run, write, Answer, Case, Coverage, Question, Reference, Subject};
 use lyra2_reference::{
-    Checked, Counts, Inputs, LineParts, LineValues, Mixer, Parameters, Recorded, Refusal, Settings,
+    Checked, Choice, Counts, Inputs, Limits, LineParts, LineValues, Mixer, Parameters, Recorded,
+    Refusal, Settings,
 };
 
 #[derive(Clone, Copy, Debug, PartialEq, Eq)]
@@ -167,6 +168,10 @@ impl Subject for Faulty {
     fn line_write(&self, parts: &LineParts, line: &mut [u8]) -> Option<Result<u64, Refusal>> {
         Reference.line_write(parts, line)
     }
+
+    fn choose(&self, limits: &Limits) -> Option<Result<Choice, Refusal>> {
+        Reference.choose(limits)
+    }
 }
 
 /// The cases with buffers small enough to be asked over and over.
@@ -221,7 +226,7 @@ fn no_fault_is_noticed_where_there_is_none() {
     }
 }
 
-/// A faulty program without the recorded derivation, the walk program and the login lines.
+/// A faulty program without the recorded derivation, the walk program, the login lines and the choice of costs.
 struct Partial(Faulty);
 
 impl Subject for Partial {
@@ -277,7 +282,7 @@ fn a_partial_program_is_held_against_what_it_has() {
             (Question::WalkProgram { .. }, _) => Coverage::Nothing,
             (Question::LineRead { .. } | Question::LineWrite { .. }, _) => Coverage::Nothing,
             (_, Answer::Refused(Refusal::RecordWords)) => Coverage::Nothing,
-            (Question::DeriveRecorded { .. }, _) => Coverage::SharedPart,
+            (Question::DeriveRecorded { .. } | Question::Choose { .. }, _) => Coverage::SharedPart,
             _ => Coverage::Whole,
         };
         let found = run::check_case(&Partial(Faulty(Fault::Nothing)), &case);

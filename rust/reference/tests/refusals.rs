@@ -1,8 +1,8 @@
 //! The refusals: each limit from both sides, the order of the checks, and buffers left as they were.
 
 use lyra2_reference::refusal::{
-    Refusal, COST_CHECKS, LINE_READ_CHECKS, LINE_WRITE_CHECKS, PLAIN_CHECKS, RECORDED_CHECKS,
-    ROTATIONS, ROUNDS, WALK_CHECKS,
+    Refusal, CHOICE_CHECKS, COST_CHECKS, LINE_READ_CHECKS, LINE_WRITE_CHECKS, PLAIN_CHECKS,
+    RECORDED_CHECKS, ROTATIONS, ROUNDS, WALK_CHECKS,
 };
 use lyra2_reference::{
     check, cost, derive, derive_recorded, walk, Inputs, Mixer, Parameters, Settings,
@@ -244,9 +244,11 @@ fn make_hold(call: &mut Call, check: Refusal, high: bool) {
         Refusal::Rotation => call.settings.omega = pick(0, 12),
         Refusal::MatrixWords => call.matrix_words = pick(0, 35) as usize,
         Refusal::RecordWords => call.record_words = pick(0, 5) as usize,
-        Refusal::WalkRow | Refusal::LineForm | Refusal::OutputTooShort => {
-            panic!("none of the four operations has this check")
-        }
+        Refusal::WalkRow
+        | Refusal::LineForm
+        | Refusal::OutputTooShort
+        | Refusal::Tries
+        | Refusal::NothingFits => panic!("none of the four operations has this check"),
     }
 }
 
@@ -386,6 +388,7 @@ fn orders_of_the_checks() {
     );
     assert_eq!(numbers(PLAIN_CHECKS), [1, 2, 3, 10, 4, 5, 6, 13, 14, 7]);
     assert_eq!(numbers(COST_CHECKS), [1, 2, 3, 10, 4, 5, 6, 13]);
+    assert_eq!(numbers(CHOICE_CHECKS), [1, 2, 3, 10, 13, 15, 16]);
     assert_eq!(numbers(WALK_CHECKS), [5, 9]);
 }
 
@@ -398,6 +401,7 @@ fn every_refusal_is_a_check_of_some_operation() {
         WALK_CHECKS,
         LINE_READ_CHECKS,
         LINE_WRITE_CHECKS,
+        CHOICE_CHECKS,
     ];
     let made: BTreeSet<_> = numbers(&orders.concat()).into_iter().collect();
     assert_eq!(made, numbers(Refusal::ALL).into_iter().collect());
@@ -405,7 +409,7 @@ fn every_refusal_is_a_check_of_some_operation() {
 
 #[test]
 fn numbers_and_sentences() {
-    let all: Vec<u8> = (1..=14).collect();
+    let all: Vec<u8> = (1..=16).collect();
     assert_eq!(numbers(Refusal::ALL), all);
     let mut sentences = BTreeSet::new();
     for refusal in Refusal::ALL {
@@ -416,5 +420,5 @@ fn numbers_and_sentences() {
         assert!(sentences.insert(refusal.to_string()), "{refusal}");
     }
     assert_eq!(Refusal::from_number(0), None);
-    assert_eq!(Refusal::from_number(15), None);
+    assert_eq!(Refusal::from_number(17), None);
 }

@@ -144,7 +144,7 @@ fn every_operation_has_each_of_its_refusals() {
             found.entry(op).or_default().insert(refusal.number());
         }
     }
-    let expected: [(&str, BTreeSet<u8>); 7] = [
+    let expected: [(&str, BTreeSet<u8>); 8] = [
         (
             "derive_recorded",
             [1, 2, 3, 4, 5, 6, 7, 8, 10, 13, 14].into(),
@@ -155,6 +155,7 @@ fn every_operation_has_each_of_its_refusals() {
         ("walk", [5, 9].into()),
         ("line_read", [1, 3, 4, 5, 6, 10, 11, 12].into()),
         ("line_write", [1, 3, 4, 5, 6, 10, 12].into()),
+        ("choose", [1, 2, 3, 10, 13, 15, 16].into()),
     ];
     assert_eq!(found, expected.into());
 }
@@ -178,7 +179,7 @@ impl Asked {
     }
 }
 
-/// The walk has other numbers, and the login lines have tests of their own.
+/// The walk has other numbers, and the login lines and the choices have tests of their own.
 fn asked(question: &Question) -> Option<Asked> {
     Some(match question {
         Question::DeriveRecorded {
@@ -204,7 +205,8 @@ fn asked(question: &Question) -> Option<Asked> {
         Question::Walk { .. }
         | Question::WalkProgram { .. }
         | Question::LineRead { .. }
-        | Question::LineWrite { .. } => return None,
+        | Question::LineWrite { .. }
+        | Question::Choose { .. } => return None,
     })
 }
 
@@ -228,11 +230,15 @@ fn holds(check: Refusal, question: &Question) -> bool {
         Refusal::Rotation => settings.omega == 0 || settings.omega > 11,
         Refusal::MatrixWords => asked.matrix_words < given.matrix_words(),
         Refusal::RecordWords => asked.record_words < given.record_words(),
-        Refusal::WalkRow | Refusal::LineForm | Refusal::OutputTooShort => false,
+        Refusal::WalkRow
+        | Refusal::LineForm
+        | Refusal::OutputTooShort
+        | Refusal::Tries
+        | Refusal::NothingFits => false,
     }
 }
 
-/// The cases of the operations other than the walk and the login lines, by operation.
+/// The cases of the operations other than the walk, the login lines and the choice, by operation.
 fn cases_by_operation() -> BTreeMap<&'static str, Vec<Case>> {
     let mut cases_of: BTreeMap<_, Vec<Case>> = BTreeMap::new();
     for (_, case) in common::cases() {

@@ -38,9 +38,14 @@ fn unnamed(question: &Question) -> Question {
     question
 }
 
+/// A choice always has its ρ, which is no setting of a derivation there.
+fn is_choice(case: &Case) -> bool {
+    matches!(case.question, Question::Choose { .. })
+}
+
 #[test]
 fn settings_are_named_from_request_106_on() {
-    for case in cases() {
+    for case in cases().into_iter().filter(|case| !is_choice(case)) {
         let is_named = unnamed(&case.question) != case.question;
         let is_new = case.number >= FIRST_WITH_SETTINGS;
         assert_eq!(is_named, is_new, "case {}", case.number);
@@ -168,6 +173,7 @@ fn refused(refusal: Refusal) -> BTreeMap<&'static str, BTreeSet<u64>> {
         let settings = given(&case.question).map(Given::settings);
         let value = match (&case.question, refusal) {
             (Question::Cost { rho, .. }, _) => *rho,
+            (Question::Choose { limits }, _) => Some(limits.rho),
             (_, Refusal::Rounds) => settings.map(|settings| settings.rho),
             _ => settings.map(|settings| settings.omega),
         };
@@ -180,7 +186,7 @@ fn refused(refusal: Refusal) -> BTreeMap<&'static str, BTreeSet<u64>> {
 #[test]
 fn refused_settings_cover_the_limits() {
     let rounds = refused(Refusal::Rounds);
-    assert_eq!(rounds.len(), 4);
+    assert_eq!(rounds.len(), 5);
     for (op, found) in rounds {
         let due = [0, 13, 257, 65_537, 1 << 32, 1 << 32 | 1, u64::MAX];
         assert!(due.iter().all(|rho| found.contains(rho)), "{op}: {found:?}");
@@ -235,7 +241,7 @@ fn counts(answer: &Answer) -> Option<Counts> {
 
 #[test]
 fn the_mixer_is_named_from_request_107_on() {
-    for case in cases() {
+    for case in cases().into_iter().filter(|case| !is_choice(case)) {
         let is_new = case.number >= FIRST_WITH_MIXER;
         assert_eq!(named_mixer(&case).is_some(), is_new, "case {}", case.number);
     }

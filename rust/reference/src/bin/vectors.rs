@@ -3,7 +3,9 @@
 #![forbid(unsafe_code)]
 
 use lyra2_reference::vectors::random::{self, Random};
-use lyra2_reference::vectors::{chosen_text, random_line, read, run, write, Answer, Reference};
+use lyra2_reference::vectors::{
+    chosen_text, random_choice, random_line, read, run, write, Answer, Reference,
+};
 use std::ffi::OsString;
 use std::fs::OpenOptions;
 use std::io::Write;
@@ -83,10 +85,11 @@ fn run_random(seed: u64, count: u64) -> Result<String, String> {
     let mut random = Random::new(seed);
     let (mut accepted, mut refused) = (0u64, 0u64);
     for place in 1..=count {
-        // Derivations and login lines in turn.
-        let question = match place % 2 {
+        // Derivations, login lines and choices of costs in turn.
+        let question = match place % 3 {
             1 => random::question(&mut random),
-            _ => random_line::question(&mut random),
+            2 => random_line::question(&mut random),
+            _ => random_choice::question(&mut random),
         };
         let outcome = run::ask(&Reference, &question).and_then(|answer| {
             run::agree(&Reference, &question, &answer)?;

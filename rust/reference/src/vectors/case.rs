@@ -1,9 +1,10 @@
 //! A case of the vectors file: a question put to an operation, and the answer to it.
 
+use crate::choice::{Choice, Limits};
 use crate::input::Parameters;
 use crate::refusal::{
-    Refusal, COST_CHECKS, LINE_READ_CHECKS, LINE_WRITE_CHECKS, PLAIN_CHECKS, RECORDED_CHECKS,
-    WALK_CHECKS,
+    Refusal, CHOICE_CHECKS, COST_CHECKS, LINE_READ_CHECKS, LINE_WRITE_CHECKS, PLAIN_CHECKS,
+    RECORDED_CHECKS, WALK_CHECKS,
 };
 use crate::settings::{Mixer, Settings};
 use crate::sponge::{Counts, State};
@@ -194,6 +195,11 @@ pub enum Question {
         /// Bytes of the lent output.
         line_room: u64,
     },
+    /// The choice of costs.
+    Choose {
+        /// What the choice goes by.
+        limits: Limits,
+    },
 }
 
 impl Question {
@@ -208,6 +214,7 @@ impl Question {
             Question::WalkProgram { .. } => &[],
             Question::LineRead { .. } => LINE_READ_CHECKS,
             Question::LineWrite { .. } => LINE_WRITE_CHECKS,
+            Question::Choose { .. } => CHOICE_CHECKS,
         }
     }
 }
@@ -266,6 +273,8 @@ pub enum Answer {
         /// The written bytes of the output.
         line: Vec<u8>,
     },
+    /// Of the choice of costs.
+    Chosen(Choice),
 }
 
 /// The walk program's standard output.

@@ -7,11 +7,13 @@
 mod accepted;
 pub mod case;
 pub mod checksum;
+mod choices;
 pub mod fields;
 mod lent;
 mod lines;
 mod mixer;
 pub mod random;
+pub mod random_choice;
 pub mod random_line;
 pub mod read;
 mod record;
@@ -46,6 +48,7 @@ pub fn chosen_questions() -> Vec<Question> {
         refused::with_blamka(),
         record::questions(),
         refused::of_records(),
+        choices::questions(),
     ]
     .concat()
 }

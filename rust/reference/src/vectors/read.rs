@@ -5,6 +5,7 @@ use super::case::{
 };
 use super::fields::{unknown_value, Fields, Trouble};
 use super::write::mixer_name;
+use crate::choice::{Choice, Limits};
 use crate::input::Parameters;
 use crate::refusal::Refusal;
 use crate::settings::Mixer;
@@ -150,6 +151,9 @@ fn read_question(fields: &mut Fields) -> Result<Question, Trouble> {
             },
             line_room: fields.number("line_room", 0..=MOST_KEY_BYTES)?,
         },
+        "choose" => Question::Choose {
+            limits: read_limits(fields)?,
+        },
         other => return Err(unknown_value("op", other)),
     })
 }
@@ -163,6 +167,19 @@ fn read_given(fields: &mut Fields) -> Result<Given, Trouble> {
         c: fields.any_number("C")?,
         settings: read_settings(fields)?,
         matrix_words: fields.number("matrix_words", 0..=MOST_WORDS)?,
+    })
+}
+
+/// What a choice goes by. No matrix is lent, so that its words may be any number.
+fn read_limits(fields: &mut Fields) -> Result<Limits, Trouble> {
+    Ok(Limits {
+        key_len: fields.any_number("key_len")?,
+        password_len: fields.any_number("password_len")?,
+        salt_len: fields.any_number("salt_len")?,
+        matrix_words: fields.any_number("matrix_words")?,
+        budget: fields.any_number("budget")?,
+        rho: fields.any_number("rho")?,
+        tries: fields.any_number("tries")?,
     })
 }
 
@@ -229,6 +246,12 @@ fn read_answer(fields: &mut Fields, question: &Question) -> Result<Answer, Troub
         Question::LineWrite { .. } => Answer::LineWritten {
             line: fields.hex("line")?,
         },
+        Question::Choose { .. } => Answer::Chosen(Choice {
+            t: fields.any_number("T")?,
+            r: fields.any_number("R")?,
+            c: fields.any_number("C")?,
+            shortfall: fields.any_number("shortfall")?,
+        }),
     })
 }
 

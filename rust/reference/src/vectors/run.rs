@@ -4,6 +4,7 @@ use super::case::{Answer, Bytes, Case, Given, LoginValues, Output, Question, LIS
 use super::fields::short;
 use super::subject::Subject;
 use super::{checksum, lent, write};
+use crate::choice::{Choice, Limits, CHOSEN_TIME_COSTS, SMALLEST_COSTS};
 use crate::refusal::Refusal;
 use crate::settings::Settings;
 use crate::{Counts, Inputs, LineParts};
@@ -51,6 +52,10 @@ fn ask_if_offered(subject: &impl Subject, question: &Question) -> Result<Option<
         } => return ask_line_read(subject, line, *salt_room, *key_room),
         Question::LineWrite { values, line_room } => {
             return ask_line_write(subject, values, *line_room)
+        }
+        Question::Choose { limits } => {
+            let chosen = subject.choose(limits);
+            return Ok(chosen.map(|chosen| chosen.map_or_else(Answer::Refused, Answer::Chosen)));
         }
     };
     Ok(Some(answer))
@@ -248,7 +253,8 @@ pub fn check_case(subject: &impl Subject, case: &Case) -> Result<Coverage, Strin
 }
 
 /// Asks the operations that share a question's inputs for what they share of its answer, and says whether there was
-/// anything to ask: those beside a recorded derivation, and the inverse of reading or writing a login line.
+/// anything to ask: those beside a recorded derivation, the inverse of reading or writing a login line, and the cost of what
+/// was chosen.
 pub fn agree(subject: &impl Subject, question: &Question, answer: &Answer) -> Result<bool, String> {
     let (given, key_len) = match (question, answer) {
         (Question::DeriveRecorded { given, key_len, .. }, _) => (given, key_len),
@@ -257,6 +263,9 @@ pub fn agree(subject: &impl Subject, question: &Question, answer: &Answer) -> Re
         }
         (Question::LineWrite { values, .. }, Answer::LineWritten { line }) => {
             return agree_on_line(subject, line, values)
+        }
+        (Question::Choose { limits }, _) => {
+            return agree_on_choice(subject, limits, answer).map(|()| true)
         }
         _ => return Ok(false),
     };
@@ -347,6 +356,30 @@ fn agree_on_line(
     let wrote = expect_if_offered(subject, &write, &Answer::LineWritten { line })?;
     let has_read = expect_if_offered(subject, &read, &Answer::LineRead(listed))?;
     Ok(wrote || has_read)
+}
+
+/// Asks for the cost of what was chosen and of a greater T; where a choice is refused, for the smallest costs.
+fn agree_on_choice(subject: &impl Subject, limits: &Limits, answer: &Answer) -> Result<(), String> {
+    let fits = |costs: [u64; 3]| {
+        let given = limits.parameters(costs);
+        let counts = subject.cost(&given, limits.rho)?;
+        Ok(counts.rounds <= limits.budget && given.matrix_words() <= limits.matrix_words)
+    };
+    let agrees = match answer {
+        Answer::Chosen(Choice { t, r, c, .. }) => {
+            let is_last = t == CHOSEN_TIME_COSTS.end();
+            let greater = [t.saturating_add(1), *r, *c];
+            fits([*t, *r, *c]) == Ok(true) && (is_last || fits(greater) == Ok(false))
+        }
+        Answer::Refused(Refusal::Tries) => fits(SMALLEST_COSTS).is_ok(),
+        Answer::Refused(Refusal::NothingFits) => fits(SMALLEST_COSTS) == Ok(false),
+        Answer::Refused(refusal) => fits(SMALLEST_COSTS) == Err(*refusal),
+        _ => return Err("a choice gave another operation's answer".to_string()),
+    };
+    match agrees {
+        true => Ok(()),
+        false => Err("cost on the same inputs: it does not bear out the choice".to_string()),
+    }
 }
 
 fn derive_question(given: &Given, key_len: u64) -> Question {

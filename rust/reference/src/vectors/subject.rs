@@ -1,10 +1,13 @@
 //! The program that a vectors file is held against.
 
-use crate::{Checked, Counts, Inputs, LineParts, LineValues, Parameters, Recorded, Refusal};
+use crate::{
+    Checked, Choice, Counts, Inputs, Limits, LineParts, LineValues, Parameters, Recorded, Refusal,
+};
 
 /// The operations of an implementation of Lyra2, as document 01 opens them to callers.
 ///
-/// A program may lack the recorded derivation, the walk program or the login lines; it then leaves their default, None.
+/// A program may lack the recorded derivation, the walk program, the login lines or the choice of costs; it then leaves
+/// their default, None.
 pub trait Subject {
     /// The recorded derivation.
     fn derive_recorded(
@@ -52,6 +55,11 @@ pub trait Subject {
 
     /// The writing of a login line; returns its length.
     fn line_write(&self, _parts: &LineParts, _line: &mut [u8]) -> Option<Result<u64, Refusal>> {
+        None
+    }
+
+    /// The choice of costs.
+    fn choose(&self, _limits: &Limits) -> Option<Result<Choice, Refusal>> {
         None
     }
 }
@@ -111,5 +119,9 @@ impl Subject for Reference {
 
     fn line_write(&self, parts: &LineParts, line: &mut [u8]) -> Option<Result<u64, Refusal>> {
         Some(crate::line_write(parts, line))
+    }
+
+    fn choose(&self, limits: &Limits) -> Option<Result<Choice, Refusal>> {
+        Some(crate::choose(limits))
     }
 }

@@ -1,6 +1,7 @@
 //! Writing a case as a line of text.
 
 use super::case::{Answer, Bytes, Case, Given, LoginValues, NamedSettings, Question};
+use crate::choice::{Choice, Limits};
 use crate::settings::Mixer;
 use crate::sponge::Counts;
 
@@ -34,6 +35,7 @@ pub fn op(question: &Question) -> &'static str {
         Question::WalkProgram { .. } => "walk_program",
         Question::LineRead { .. } => "line_read",
         Question::LineWrite { .. } => "line_write",
+        Question::Choose { .. } => "choose",
     }
 }
 
@@ -84,6 +86,7 @@ fn question(question: &Question) -> Vec<Field> {
             let line_room = vec![("line_room", line_room.to_string())];
             [login_values(values), line_room].concat()
         }
+        Question::Choose { limits } => choice_limits(limits),
     }
 }
 
@@ -119,6 +122,27 @@ fn login_values(values: &LoginValues) -> Vec<Field> {
         ("C", values.c.to_string()),
         bytes("salt", "salt_zeros", &values.salt),
         bytes("key", "key_zeros", &values.key),
+    ]
+}
+
+fn choice_limits(limits: &Limits) -> Vec<Field> {
+    vec![
+        ("key_len", limits.key_len.to_string()),
+        ("password_len", limits.password_len.to_string()),
+        ("salt_len", limits.salt_len.to_string()),
+        ("matrix_words", limits.matrix_words.to_string()),
+        ("budget", limits.budget.to_string()),
+        ("rho", limits.rho.to_string()),
+        ("tries", limits.tries.to_string()),
+    ]
+}
+
+fn choice(choice: &Choice) -> Vec<Field> {
+    vec![
+        ("T", choice.t.to_string()),
+        ("R", choice.r.to_string()),
+        ("C", choice.c.to_string()),
+        ("shortfall", choice.shortfall.to_string()),
     ]
 }
 
@@ -158,6 +182,7 @@ pub fn answer(answer: &Answer) -> Vec<Field> {
         }
         Answer::LineRead(values) => [accepted, login_values(values)].concat(),
         Answer::LineWritten { line } => [accepted, vec![("line", hex(line))]].concat(),
+        Answer::Chosen(chosen) => [accepted, choice(chosen)].concat(),
     }
 }
 
