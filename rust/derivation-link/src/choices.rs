@@ -25,7 +25,6 @@ pub fn compare_choice(
 pub fn compare_random(
     subject: &impl Subject,
     random: &mut Random,
-) -> Result<Result<(), Refusal>, String> {
-    let answer = compare_choice(subject, random_choice::limits(random))?;
-    Ok(answer.map(drop))
+) -> Result<Result<Choice, Refusal>, String> {
+    compare_choice(subject, random_choice::limits(random))
 }

@@ -2,11 +2,12 @@
 //!
 //! A seed stands for one comparison, so a failure is repeated by its seed alone.
 
+use crate::choices;
 use crate::guarded::{byte, word, Guarded};
 use crate::lines;
 use lyra2_reference::vectors::random::{self, Random};
 use lyra2_reference::vectors::{Reference, Subject};
-use lyra2_reference::{Checked, Counts, Inputs, Parameters, Recorded, Refusal, Settings};
+use lyra2_reference::{Checked, Choice, Counts, Inputs, Parameters, Recorded, Refusal, Settings};
 use std::fmt::{Debug, LowerHex};
 
 /// What a comparison was about.
@@ -20,6 +21,8 @@ pub struct Compared {
     pub answer: Result<Recorded, Refusal>,
     /// What both programs answered to the login lines that were read and written: no refusal, or one.
     pub lines: Vec<Result<(), Refusal>>,
+    /// What both programs chose, or with what they refused to choose.
+    pub choices: Vec<Result<Choice, Refusal>>,
 }
 
 /// The sizes of a call.
@@ -52,8 +55,10 @@ struct End {
 
 /// Login lines of a seed.
 const LINES: usize = 4;
+/// Choices of costs of a seed.
+const CHOICES: usize = 4;
 
-/// Makes the comparison of a seed: both derivations, the cost question, three checks, and some login lines.
+/// Makes the comparison of a seed: both derivations, the cost question, three checks, some login lines and some choices.
 pub fn compare(subject: &impl Subject, seed: u64) -> Result<Compared, String> {
     let mut random = Random::new(seed);
     let mut sizes = draw_sizes(&mut random);
@@ -75,11 +80,14 @@ pub fn compare(subject: &impl Subject, seed: u64) -> Result<Compared, String> {
     lent.password.used("password", 0).map_err(at_sizes)?;
     lent.salt.used("salt", 0).map_err(at_sizes)?;
     let lines = (0..LINES).map(|_| lines::compare_question(subject, &mut random));
+    let lines = lines.collect::<Result<_, _>>()?;
+    let choices = (0..CHOICES).map(|_| choices::compare_random(subject, &mut random));
     Ok(Compared {
         sizes: sizes.given,
         settings: sizes.settings,
         answer: end.recorded,
-        lines: lines.collect::<Result<_, _>>()?,
+        lines,
+        choices: choices.collect::<Result<_, _>>()?,
     })
 }
 

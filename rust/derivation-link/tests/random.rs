@@ -4,7 +4,7 @@ use derivation_link::compare::compare;
 use derivation_link::Proved;
 use lyra2_reference::vectors::random::{question, Random};
 use lyra2_reference::vectors::{run, Case, Coverage, Reference};
-use lyra2_reference::{Mixer, Refusal, Settings};
+use lyra2_reference::{Choice, Mixer, Refusal, Settings};
 use std::collections::BTreeSet;
 
 const FIRST_SEED: u64 = 0x4c79_7261_3200;
@@ -24,6 +24,35 @@ struct Met {
     refusals: BTreeSet<(u8, bool)>,
     /// Of login lines; 0 is an accepted one.
     lines: BTreeSet<u8>,
+    choices: MetChoices,
+}
+
+/// What was chosen, and with which numbers choices were refused; 0 is an accepted one.
+#[derive(Default)]
+struct MetChoices {
+    refusals: BTreeSet<u8>,
+    times: BTreeSet<u64>,
+    rows: BTreeSet<u64>,
+    columns: BTreeSet<u64>,
+    /// How many had a shortfall.
+    short: u64,
+}
+
+fn number<A>(answer: &Result<A, Refusal>) -> u8 {
+    let refusal = answer.as_ref().err();
+    refusal.map_or(0, |refusal| refusal.number())
+}
+
+impl MetChoices {
+    fn add(&mut self, answer: Result<Choice, Refusal>) {
+        self.refusals.insert(number(&answer));
+        if let Ok(choice) = answer {
+            self.times.insert(choice.t);
+            self.rows.insert(choice.r);
+            self.columns.insert(choice.c);
+            self.short += u64::from(choice.shortfall > 0);
+        }
+    }
 }
 
 #[test]
@@ -32,8 +61,9 @@ fn every_length_setting_and_refusal_is_met_and_the_two_programs_agree() {
     for seed in FIRST_SEED..FIRST_SEED + COMPARISONS {
         let compared = compare(&Proved, seed)
             .unwrap_or_else(|what| panic!("{what}; `compare-random {seed} 1` repeats it"));
-        let number = |answer: &Result<(), Refusal>| answer.err().map_or(0, Refusal::number);
         met.lines.extend(compared.lines.iter().map(number));
+        let choices = compared.choices.into_iter();
+        choices.for_each(|answer| met.choices.add(answer));
         let Settings { rho, omega, mixer } = compared.settings;
         let is_blamka = mixer == Mixer::BlaMka;
         if let Err(refusal) = compared.answer {
@@ -59,6 +89,12 @@ fn every_length_setting_and_refusal_is_met_and_the_two_programs_agree() {
         refusals.flat_map(|number| [false, true].map(|is_blamka| (number, is_blamka)));
     assert_eq!(met.refusals, with_mixers.collect());
     assert_eq!(met.lines, [0, 1, 3, 4, 5, 6, 10, 11, 12].into());
+    assert_eq!(met.choices.refusals, [0, 1, 2, 3, 10, 13, 15, 16].into());
+    assert_eq!(met.choices.times, (1..=255).collect());
+    assert_eq!(met.choices.columns, (1..=256).collect());
+    let rows = &met.choices.rows;
+    assert!([3, 4, 16_383, 16_384].iter().all(|r| rows.contains(r)));
+    assert!(met.choices.short >= 10_000, "{}", met.choices.short);
 }
 
 /// The second program's own questions, recorded derivations of larger matrices than the comparisons have.
