@@ -3,10 +3,11 @@
 use derivation_link::compare::compare;
 use derivation_link::Proved;
 use lyra2_reference::record;
-use lyra2_reference::refusal::{check_record, ROTATIONS};
+use lyra2_reference::refusal::{check_record, ROTATIONS, ROUNDS};
 use lyra2_reference::vectors::Subject;
 use lyra2_reference::{
-    Checked, Counts, Inputs, LineParts, LineValues, Mixer, Parameters, Recorded, Refusal, Settings,
+    Checked, Choice, Counts, Inputs, Limits, LineParts, LineValues, Mixer, Parameters, Recorded,
+    Refusal, Settings,
 };
 
 #[derive(Clone, Copy, Debug, PartialEq, Eq)]
@@ -96,6 +97,39 @@ enum Fault {
     LineOnRefusal,
     LineLengthOneMore,
     SaltOfWrittenLineChanged,
+    ChoicesMissing,
+    ChoiceWordsOneMore,
+    ChoiceWordsOneLess,
+    ChoiceWordsCutTo32Bits,
+    ChoiceBudgetOneMore,
+    ChoiceBudgetOneLess,
+    ChoiceBudgetCutTo32Bits,
+    ChoiceOfOneRound,
+    ChoiceOfOneBlock,
+    ChoiceOfOnePiece,
+    ChoiceWithoutFullCalls,
+    ChoiceOfAllColumns,
+    ChoiceTriesOneMore,
+    ChoiceTriesOneLess,
+    ChoiceTriesCutTo8Bits,
+    ChoiceOfManyTriesRefused,
+    ChoiceOfNoTries,
+    ChoiceTimeOneMore,
+    ChoiceTimeOneLess,
+    ChoiceTimeOf256,
+    ChoiceOfFewerRows,
+    ChoiceOfOneColumn,
+    ChoiceOfMoreColumns,
+    ChoiceExchanged,
+    ShortfallForgotten,
+    ShortfallOneMore,
+    ShortfallOfAllCells,
+    ChoiceRefused,
+    NoTriesRefusedWith16,
+    NothingFitsRefusedWith15,
+    FitBeforeTries,
+    TriesBeforeRounds,
+    RoundsOfChoiceRefusedWith15,
 }
 
 use Fault::*;
@@ -183,6 +217,101 @@ impl Faulty {
                 record[2 * used - 1] = 0;
             }
             _ => (),
+        }
+    }
+
+    /// The limits that the faulty program chooses by.
+    fn limits(&self, limits: &Limits) -> Limits {
+        let mut limits = *limits;
+        let Limits {
+            key_len,
+            password_len,
+            matrix_words,
+            budget,
+            rho,
+            tries,
+            ..
+        } = &mut limits;
+        match self.0 {
+            ChoiceWordsOneMore => *matrix_words = matrix_words.saturating_add(1),
+            ChoiceWordsOneLess => *matrix_words = matrix_words.saturating_sub(1),
+            ChoiceWordsCutTo32Bits => *matrix_words &= 0xffff_ffff,
+            ChoiceBudgetOneMore => *budget = budget.saturating_add(1),
+            ChoiceBudgetOneLess => *budget = budget.saturating_sub(1),
+            ChoiceBudgetCutTo32Bits => *budget &= 0xffff_ffff,
+            ChoiceOfOneRound if ROUNDS.contains(rho) => *rho = 1,
+            ChoiceOfOneBlock => *password_len = 0,
+            ChoiceOfOnePiece => *key_len = (*key_len).min(96),
+            // Of the two full calls that are made at least, none is paid for.
+            ChoiceWithoutFullCalls => *budget = budget.saturating_add(24),
+            ChoiceOfAllColumns if *tries > 0 => *tries = 256,
+            ChoiceTriesOneMore if *tries > 0 => *tries = tries.saturating_add(1),
+            ChoiceTriesOneLess if *tries > 1 => *tries -= 1,
+            ChoiceTriesCutTo8Bits => *tries &= 0xff,
+            ChoiceOfManyTriesRefused if *tries > 256 => *tries = 0,
+            ChoiceOfNoTries => *tries = (*tries).max(1),
+            ChoiceOfOneColumn if *tries > 0 => *tries = 1,
+            _ => (),
+        }
+        limits
+    }
+
+    /// What the faulty program makes of a choice within some limits.
+    fn spoil_choice(&self, limits: &Limits, choice: Choice) -> Choice {
+        let Choice { t, r, c, shortfall } = choice;
+        match self.0 {
+            ChoiceTimeOneMore if t < 255 => Choice { t: t + 1, ..choice },
+            ChoiceTimeOneLess if t > 1 => Choice { t: t - 1, ..choice },
+            ChoiceTimeOf256 if t == 255 => Choice { t: 256, ..choice },
+            ChoiceOfFewerRows if r > 3 => Choice {
+                r: r - 1,
+                shortfall: shortfall + c,
+                ..choice
+            },
+            ChoiceOfMoreColumns => {
+                let cells = r * c;
+                let reaches = |more: &u64| cells.is_multiple_of(*more) && cells / more >= 3;
+                let c = (c..=limits.tries.min(256)).filter(reaches).max();
+                c.map_or(choice, |c| Choice {
+                    r: cells / c,
+                    c,
+                    ..choice
+                })
+            }
+            ChoiceExchanged => Choice {
+                r: c,
+                c: r,
+                ..choice
+            },
+            ShortfallForgotten => Choice {
+                shortfall: 0,
+                ..choice
+            },
+            ShortfallOneMore => Choice {
+                shortfall: shortfall + 1,
+                ..choice
+            },
+            ShortfallOfAllCells => Choice {
+                shortfall: 16_384 * 256 - r * c,
+                ..choice
+            },
+            _ => choice,
+        }
+    }
+
+    /// The answer where a choice is refused with another number, or a check is made too early.
+    fn spoil_choice_refusal(&self, limits: &Limits, due: Refusal) -> Refusal {
+        let nothing_fits = || {
+            let tries = 1;
+            Proved.choose(&Limits { tries, ..*limits }) == Some(Err(Refusal::NothingFits))
+        };
+        match (self.0, due) {
+            (NoTriesRefusedWith16, Refusal::Tries) => Refusal::NothingFits,
+            (NothingFitsRefusedWith15, Refusal::NothingFits) => Refusal::Tries,
+            (FitBeforeTries, Refusal::Tries) if nothing_fits() => Refusal::NothingFits,
+            (TriesBeforeRounds, Refusal::Rounds) if limits.tries == 0 => Refusal::Tries,
+            (RoundsOfChoiceRefusedWith15, Refusal::Rounds) => Refusal::Tries,
+            _ => due,
         }
     }
 
@@ -412,6 +541,16 @@ impl Subject for Faulty {
         }
         Some(answer)
     }
+
+    fn choose(&self, limits: &Limits) -> Option<Result<Choice, Refusal>> {
+        let answer = Proved.choose(&self.limits(limits))?;
+        match (answer, self.0) {
+            (_, ChoicesMissing) => None,
+            (Ok(_), ChoiceRefused) => Some(Err(Refusal::NothingFits)),
+            (Ok(choice), _) => Some(Ok(self.spoil_choice(limits, choice))),
+            (Err(due), _) => Some(Err(self.spoil_choice_refusal(limits, due))),
+        }
+    }
 }
 
 /// Clears the byte at a place, if there is one.
@@ -509,6 +648,39 @@ fn every_fault_is_noticed() {
         LineOnRefusal,
         LineLengthOneMore,
         SaltOfWrittenLineChanged,
+        ChoicesMissing,
+        ChoiceWordsOneMore,
+        ChoiceWordsOneLess,
+        ChoiceWordsCutTo32Bits,
+        ChoiceBudgetOneMore,
+        ChoiceBudgetOneLess,
+        ChoiceBudgetCutTo32Bits,
+        ChoiceOfOneRound,
+        ChoiceOfOneBlock,
+        ChoiceOfOnePiece,
+        ChoiceWithoutFullCalls,
+        ChoiceOfAllColumns,
+        ChoiceTriesOneMore,
+        ChoiceTriesOneLess,
+        ChoiceTriesCutTo8Bits,
+        ChoiceOfManyTriesRefused,
+        ChoiceOfNoTries,
+        ChoiceTimeOneMore,
+        ChoiceTimeOneLess,
+        ChoiceTimeOf256,
+        ChoiceOfFewerRows,
+        ChoiceOfOneColumn,
+        ChoiceOfMoreColumns,
+        ChoiceExchanged,
+        ShortfallForgotten,
+        ShortfallOneMore,
+        ShortfallOfAllCells,
+        ChoiceRefused,
+        NoTriesRefusedWith16,
+        NothingFitsRefusedWith15,
+        FitBeforeTries,
+        TriesBeforeRounds,
+        RoundsOfChoiceRefusedWith15,
     ] {
         let noticed = |seed: u64| compare(&Faulty(fault), seed).is_err();
         assert!((0..5000).any(noticed), "{fault:?}");
