@@ -48,6 +48,8 @@ pub fn questions() -> Vec<Question> {
         single_refusals(),
         refusals_in_order(),
         random(),
+        past_the_most_columns(),
+        without_end(),
     ];
     let questions = groups.concat().into_iter();
     without_repeats(
@@ -396,4 +398,25 @@ fn random() -> Vec<Limits> {
     (0..120)
         .map(|_| random_choice::limits(&mut random))
         .collect()
+}
+
+/// Cells that 257 columns would reach, which are never tried, and fewer do not: 15,013 is a prime number.
+fn past_the_most_columns() -> Vec<Limits> {
+    let all = [255, 256, 257, 258, u64::MAX];
+    with_tries(with_cells(257 * 15_013), &all)
+}
+
+/// The most words with few rounds, and the most rounds with few words.
+fn without_end() -> Vec<Limits> {
+    let rounds = [0, 23, 24, 29, 30].map(|budget| Limits {
+        matrix_words: u64::MAX,
+        budget,
+        ..BASE
+    });
+    let words = [0, 35, 36].map(|matrix_words| Limits {
+        matrix_words,
+        budget: u64::MAX,
+        ..BASE
+    });
+    [&rounds[..], &words].concat()
 }
