@@ -1,5 +1,5 @@
-//! Faulty programs, made on purpose: the run of the vectors file has to notice every fault. Those of the login lines and of
-//! the record's form stand in files of their own.
+//! Faulty programs, made on purpose: the run of the vectors file has to notice every fault. Those of the login lines, of
+//! the record's form and of the choice of costs stand in files of their own.
 
 mod common;
 
@@ -272,6 +272,41 @@ fn faults_of_a_partial_program_are_noticed_in_the_recorded_derivations() {
     ] {
         let noticed = |case: &Case| run::check_case(&Partial(Faulty(fault)), case).is_err();
         assert!(cases.iter().any(noticed), "{fault:?}");
+    }
+}
+
+/// The choices tell something about the cost question, also where a program chooses nothing.
+#[test]
+fn faults_of_the_cost_question_are_noticed_in_the_choices() {
+    let mut cases = small_cases();
+    cases.retain(|case| matches!(case.question, Question::Choose { .. }));
+    let noticed = |case: &&Case| {
+        let program = Partial(Faulty(CostOfNoPadding));
+        run::check_case(&program, case).is_err()
+    };
+    let is_refused = |case: &&Case| matches!(case.answer, Answer::Refused(_));
+    let (refused, accepted): (Vec<_>, Vec<_>) = cases.iter().filter(noticed).partition(is_refused);
+    assert!(!refused.is_empty() && !accepted.is_empty());
+}
+
+/// A choice whose T is not the greatest, or that is refused with another number, is noticed by the cost question alone.
+#[test]
+fn wrong_choices_are_noticed_by_their_cost() {
+    let program = Partial(Faulty(Nothing));
+    for mut case in small_cases() {
+        if !matches!(case.question, Question::Choose { .. }) {
+            continue;
+        }
+        assert_eq!(run::check_case(&program, &case), Ok(Coverage::SharedPart));
+        case.answer = match case.answer {
+            Answer::Chosen(choice) => Answer::Chosen(Choice {
+                t: if choice.t > 1 { choice.t - 1 } else { 2 },
+                ..choice
+            }),
+            Answer::Refused(Refusal::KeyLength) => Answer::Refused(Refusal::Rounds),
+            _ => Answer::Refused(Refusal::KeyLength),
+        };
+        assert!(run::check_case(&program, &case).is_err(), "{case:?}");
     }
 }
 

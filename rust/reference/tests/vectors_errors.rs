@@ -34,6 +34,9 @@ const LINE_WRITE: &str =
     "case=1 op=line_write T=1 R=3 C=1 salt=73616c7473616c74 key=66 line_room=33 \
     refusal=0 line=246c7972613224743d312c723d332c633d31246332467364484e68624851245a67";
 
+const CHOICE: &str = "case=1 op=choose key_len=32 password_len=31 salt_len=8 matrix_words=1200 \
+    budget=1000 rho=1 tries=256 refusal=0 T=8 R=100 C=1 shortfall=0";
+
 /// The problem that reading a line gives, which must be laid to that line.
 fn problem(line: &str) -> String {
     let file = format!("# a comment\n\n{line}\n");
@@ -51,7 +54,7 @@ fn replaced(line: &str, part: &str, by: &str) -> String {
 #[test]
 fn the_lines_that_the_others_start_from_are_good() {
     for line in [
-        WALK, COST, REFUSED, CHECK, PROGRAM, DERIVED, NAMED, LINE_READ, LINE_WRITE,
+        WALK, COST, REFUSED, CHECK, PROGRAM, DERIVED, NAMED, LINE_READ, LINE_WRITE, CHOICE,
     ] {
         assert!(read(format!("{line}\n").as_bytes()).is_ok(), "{line}");
     }
@@ -79,6 +82,17 @@ fn missing_fields() {
         (
             LINE_WRITE,
             &["C=1", "salt=73616c7473616c74", "line_room=33"],
+        ),
+        (
+            CHOICE,
+            &[
+                "salt_len=8",
+                "matrix_words=1200",
+                "budget=1000",
+                "rho=1",
+                "tries=256",
+                "shortfall=0",
+            ],
         ),
     ] {
         for field in fields {
@@ -165,6 +179,17 @@ fn fields_given_twice_or_unknown() {
     assert_eq!(answered, "field full: unknown in a line of this kind");
     let both = replaced(CHECK, " password_zeros=3", " password_zeros=3 password=00");
     assert_eq!(both, "field password: unknown in a line of this kind");
+    // Costs are the answer of a choice, and no counts go with them; it has no rotation and no mixer.
+    for field in ["full=2", "omega=2", "mixer=plain", "record_words=6"] {
+        let what = replaced(CHOICE, " refusal=0", &format!(" {field} refusal=0"));
+        let (name, _) = field.split_once('=').unwrap();
+        assert_eq!(
+            what,
+            format!("field {name}: unknown in a line of this kind")
+        );
+    }
+    let refused = replaced(CHOICE, "refusal=0", "refusal=16");
+    assert_eq!(refused, "field T: unknown in a line of this kind");
     let op = replaced(WALK, "op=walk", "op=wander");
     assert_eq!(op, "field op: 'wander' is unknown");
 }
@@ -182,6 +207,15 @@ fn bad_numbers() {
         let what = replaced(NAMED, name, &format!("{field}=02"));
         assert_eq!(what, format!("field {field}: '02' is not a decimal number"));
         let what = replaced(NAMED, name, &format!("{field}=18446744073709551616"));
+        let start = format!("field {field}: 18446744073709551616 is out of range");
+        assert!(what.starts_with(&start), "{what}");
+    }
+    // Nothing is lent for a choice, so that its numbers may be any of 64 bits.
+    for name in ["matrix_words=1200", "budget=1000", "tries=256"] {
+        let (field, _) = name.split_once('=').unwrap();
+        let greatest = CHOICE.replace(name, &format!("{field}=18446744073709551615"));
+        assert!(read(format!("{greatest}\n").as_bytes()).is_ok(), "{field}");
+        let what = replaced(CHOICE, name, &format!("{field}=18446744073709551616"));
         let start = format!("field {field}: 18446744073709551616 is out of range");
         assert!(what.starts_with(&start), "{what}");
     }
@@ -375,6 +409,24 @@ fn program_says_where_a_file_is_bad() {
         complaint_about("written.txt", &format!("{written}\n")),
         expected
     );
+    for (part, by, due) in [
+        ("T=8", "T=9", "T: 9 is due, 8 was found"),
+        (
+            "shortfall=0",
+            "shortfall=1",
+            "shortfall: 1 is due, 0 was found",
+        ),
+        (
+            "budget=1000",
+            "budget=29",
+            "refusal: 0 is due, 16 was found",
+        ),
+        ("tries=256", "tries=0", "refusal: 0 is due, 15 was found"),
+    ] {
+        let choice = CHOICE.replace(part, by);
+        let complaint = complaint_about("choice.txt", &format!("{choice}\n"));
+        assert_eq!(complaint, format!("1: case 1: field {due}"));
+    }
     let outside = NAMED.replace("rho=12", "rho=13");
     let expected = "1: case 1: field refusal: 0 is due, 13 was found";
     assert_eq!(
@@ -409,7 +461,9 @@ fn program_says_that_a_file_holds() {
     let mut lines = String::new();
     let usual = DERIVED.replace(" matrix_words", " rho=1 omega=2 mixer=plain matrix_words");
     let blamka = NAMED.replace(" matrix_words", " mixer=blamka matrix_words");
-    let good = [WALK, DERIVED, &usual, NAMED, &blamka, LINE_READ, LINE_WRITE];
+    let good = [
+        WALK, DERIVED, &usual, NAMED, &blamka, LINE_READ, LINE_WRITE, CHOICE,
+    ];
     for (number, line) in (1..).zip(good) {
         lines += &line.replace("case=1", &format!("case={number}"));
         lines.push('\n');
@@ -419,7 +473,7 @@ fn program_says_that_a_file_holds() {
     assert!(output.status.success());
     let text = String::from_utf8(output.stdout).unwrap();
     assert!(
-        text.ends_with(": all hold (cases: 7, refusals: 0)\n"),
+        text.ends_with(": all hold (cases: 8, refusals: 0)\n"),
         "{text}"
     );
 }
