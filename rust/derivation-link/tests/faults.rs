@@ -268,16 +268,7 @@ impl Faulty {
                 shortfall: shortfall + c,
                 ..choice
             },
-            ChoiceOfMoreColumns => {
-                let cells = r * c;
-                let reaches = |more: &u64| cells.is_multiple_of(*more) && cells / more >= 3;
-                let c = (c..=limits.tries.min(256)).filter(reaches).max();
-                c.map_or(choice, |c| Choice {
-                    r: cells / c,
-                    c,
-                    ..choice
-                })
-            }
+            ChoiceOfMoreColumns => with_more_columns(limits, choice),
             ChoiceExchanged => Choice {
                 r: c,
                 c: r,
@@ -340,6 +331,18 @@ fn plain_if<'a>(wanted: bool, inputs: &Inputs<'a>) -> Inputs<'a> {
         inputs.settings.mixer = Mixer::Plain;
     }
     inputs
+}
+
+/// The choice with as many cells and the most columns.
+fn with_more_columns(limits: &Limits, choice: Choice) -> Choice {
+    let cells = choice.r * choice.c;
+    let reaches = |c: &u64| cells.is_multiple_of(*c) && cells / c >= 3;
+    let c = (choice.c..=limits.tries.min(256)).filter(reaches).max();
+    c.map_or(choice, |c| Choice {
+        r: cells / c,
+        c,
+        ..choice
+    })
 }
 
 /// Puts the end matrix where an accepted call has wiped it.
