@@ -90,8 +90,8 @@ fn best(limits: &Limits, most: u64) -> Option<Choice> {
     })
 }
 
-/// U, the most cells that words and rounds leave room for if each takes two reduced calls, as it does with T = 1; none if the
-/// full calls alone are too many.
+/// U, the most cells that words and rounds leave room for if each takes two reduced calls, as it does with T = 1; 0 if the
+/// full calls alone spend too much.
 fn most_cells(limits: &Limits) -> Result<u64, Refusal> {
     // The full calls are the same for all costs, so that any will do.
     let full = cost(&limits.parameters(SMALLEST_COSTS), limits.rho)?.full;

@@ -1,7 +1,7 @@
 //! Every T, R and C that fit some limits, found one by one: slow, and meant for small limits.
 //!
-//! It goes by the words of the matrix and by the cost question alone. The most cells that a choice is told by come out of it
-//! and do not go in, so that it can be held against the choice.
+//! It goes by the words of the matrix and by the cost question alone. It knows no bound on the cells, so that the bound that a
+//! choice goes by can be held against what is found.
 
 use crate::choice::{Limits, CHOSEN_TIME_COSTS, SMALLEST_COSTS};
 use crate::refusal::{COLUMNS, ROWS};
