@@ -6,12 +6,12 @@
  *               refusal. Of several that apply it is the first in the call's order, which enum lyra2_refusal gives.
  * Memory        The caller lends all of it. There is no heap and no global state, nothing to set up, nothing to free.
  * Written       Accepted: what the declaration says, and nothing else. Refused: the answer's fields, which are `same`,
- *               the counts, the state, `row1`, a line's values and its length, become 0; nothing else that is lent is
- *               written.
+ *               the counts, the state, `row1`, a choice's values, a line's values and its length, become 0; nothing
+ *               else that is lent is written.
  * Before        What a call writes may hold anything beforehand. No answer depends on it.
  * Pointers      Never null, not even with a length of 0, and good for as many elements as the length says.
- *               Words, `row1`, a line's values and its length lie at addresses that 8 divides, `same` at one that 4
- *               divides, bytes anywhere.
+ *               Words, `row1`, a choice's values, a line's values and its length lie at addresses that 8 divides,
+ *               `same` at one that 4 divides, bytes anywhere.
  * Overlap       What a call writes overlaps nothing else that it is lent. What it only reads may overlap.
  * Threads       Any number of calls at once, each with its own memory to write. Nobody else writes what a call is lent.
  * Time          Depends on the lengths and numbers, and on the rows and columns that the visits pick, which in Lyra2
@@ -99,6 +99,13 @@ extern "C" {
 #define LYRA2_REDUCED_CALLS 1
 #define LYRA2_ROUNDS 2
 
+/* The values of a choice of costs, by their place. The shortfall is a number of cells, each LYRA2_CELL_WORDS words. */
+#define LYRA2_CHOICE_VALUES 4
+#define LYRA2_CHOICE_TIME 0
+#define LYRA2_CHOICE_ROWS 1
+#define LYRA2_CHOICE_COLUMNS 2
+#define LYRA2_CHOICE_SHORTFALL 3
+
 /*
  * The words of the used matrix and of the used record, which are the least to lend, and those of one visit in the
  * record. Within the limits they are at most 50,331,648, 1,073,725,440 and 257; outside the limits the products may
@@ -113,6 +120,7 @@ extern "C" {
  *     lyra2_derive_recorded        1, 2, 3, 10, 4, 5, 6, 13, 14, 7, 8
  *     lyra2_derive, lyra2_check    1, 2, 3, 10, 4, 5, 6, 13, 14, 7
  *     lyra2_cost                   1, 2, 3, 10, 4, 5, 6, 13
+ *     lyra2_choose                 1, 2, 3, 10, 13, 15, 16
  *     lyra2_walk                   5, 9
  *     lyra2_line_read              11, 1, 3, 10, 4, 5, 6, 12
  *     lyra2_line_write             1, 3, 10, 4, 5, 6, 12
@@ -132,7 +140,9 @@ enum lyra2_refusal {
     LYRA2_REFUSED_LINE = 11,
     LYRA2_REFUSED_OUTPUT = 12,
     LYRA2_REFUSED_ROUNDS = 13,
-    LYRA2_REFUSED_ROTATION = 14
+    LYRA2_REFUSED_ROTATION = 14,
+    LYRA2_REFUSED_TRIES = 15,
+    LYRA2_REFUSED_NOTHING_FITS = 16
 };
 
 /* What an answer says, in words. */
@@ -154,6 +164,8 @@ static inline const char *lyra2_sentence(uint32_t answer)
     case LYRA2_REFUSED_OUTPUT: return "a lent output is too short";
     case LYRA2_REFUSED_ROUNDS: return "a reduced call has to have 1 to 12 rounds";
     case LYRA2_REFUSED_ROTATION: return "the rotation has to be by 1 to 11 words";
+    case LYRA2_REFUSED_TRIES: return "at least one column count has to be tried";
+    case LYRA2_REFUSED_NOTHING_FITS: return "no time cost from 1, rows and columns fit the matrix and the budget";
     default: return "no answer has this number";
     }
 }
@@ -218,6 +230,19 @@ LYRA2_ANSWER uint32_t lyra2_cost(
     size_t key_len, size_t password_len, size_t salt_len,
     size_t time, size_t rows, size_t columns, size_t rounds,
     uint64_t counts[LYRA2_COUNTS]);
+
+/*
+ * Chooses the costs for a matrix of at most matrix_words words and a derivation or check that spends at most `budget`
+ * rounds. Tries 1 to `tries` columns, but no more than LYRA2_COLUMNS_MAX, each with the most rows that fit together
+ * with a time of 1. Takes the most cells, which are rows * columns, of as many the fewest columns, and then the
+ * greatest time that fits. Words, budget and tries may be any numbers. Writes the values: T, R, C and the shortfall.
+ * No allowed time from 1 on, rows and columns that fit have more than rows * columns + shortfall cells. Where tries is
+ * LYRA2_COLUMNS_MAX or more, none that fit have more than rows * columns, even if the shortfall is not 0.
+ */
+LYRA2_ANSWER uint32_t lyra2_choose(
+    size_t key_len, size_t password_len, size_t salt_len,
+    size_t matrix_words, uint64_t budget, size_t rounds, size_t tries,
+    size_t values[LYRA2_CHOICE_VALUES]);
 
 /* Tells which row Setup revisits while it fills row0. Writes *row1. */
 LYRA2_ANSWER uint32_t lyra2_walk(size_t rows, size_t row0, size_t *row1);
