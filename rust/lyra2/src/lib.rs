@@ -88,6 +88,23 @@
 //! # Ok::<(), lyra2::Refusal>(())
 //! ```
 //!
+//! # Costs for a gateway
+//!
+//! [`choose`] proposes T, R and C for the memory and the rounds that a gateway can spend on a login, and says how many
+//! cells more any others that fit have at most; [`cost`] tells what T, R and C spend that somebody has chosen.
+//!
+//! ```
+//! use lyra2::{choose, Lengths, Limits, Parameters, COLUMNS, USUAL_ROUNDS};
+//!
+//! let lengths = Lengths { key: 32, password: 1024, salt: 16 };
+//! let limits = Limits { words: (1 << 20) / 8, budget: 100_000, rounds: USUAL_ROUNDS, tries: *COLUMNS.end() };
+//! let choice = choose(lengths, limits)?;
+//!
+//! assert_eq!(choice.parameters, Parameters { time: 8, rows: 10_922, columns: 1 });
+//! assert_eq!(choice.shortfall, 0);
+//! # Ok::<(), lyra2::Refusal>(())
+//! ```
+//!
 //! # Memory
 //!
 //! Any words can be lent: a `Vec`, an array, or a [`Memory`], which [`Parameters::matrix`] and [`Parameters::record`]
@@ -153,12 +170,14 @@
 #![forbid(unsafe_code)]
 #![warn(missing_docs)]
 
+mod choice;
 mod line;
 mod operations;
 mod parameters;
 mod record;
 mod refusal;
 
+pub use choice::{choose, Choice, Limits};
 pub use line::{read_line, write_line, Line, KEY_MAX, LINE_MAX, SALT_MAX};
 pub use lyra2_memory::{Granted, Memory, NoMemory};
 pub use operations::{

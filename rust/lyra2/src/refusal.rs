@@ -38,11 +38,15 @@ pub enum Refusal {
     Rounds = 13,
     /// The rotation is outside its limits.
     Rotation = 14,
+    /// A choice of costs may try no number of columns.
+    Tries = 15,
+    /// A choice of costs finds none: no T from 1 on, R and C fit the words and the budget.
+    NothingFits = 16,
 }
 
 impl Refusal {
     /// Every refusal, by number. The order of an operation's checks is another; its documentation gives it.
-    pub const ALL: [Refusal; 14] = [
+    pub const ALL: [Refusal; 16] = [
         Refusal::KeyLength,
         Refusal::PasswordLength,
         Refusal::SaltTooShort,
@@ -57,6 +61,8 @@ impl Refusal {
         Refusal::OutputTooShort,
         Refusal::Rounds,
         Refusal::Rotation,
+        Refusal::Tries,
+        Refusal::NothingFits,
     ];
 
     /// The refusal's number.
@@ -106,6 +112,10 @@ impl fmt::Display for Refusal {
             }
             Refusal::Rounds => ("the rounds of a reduced call must be", ROUNDS, ""),
             Refusal::Rotation => ("the rotation must be", ROTATIONS, " words"),
+            Refusal::Tries => return f.write_str("at least one column count must be tried"),
+            Refusal::NothingFits => {
+                return f.write_str("no T from 1 on, R and C fit the matrix and the budget");
+            }
         };
         write!(f, "{what} {} to {}{unit}", limits.start(), limits.end())
     }

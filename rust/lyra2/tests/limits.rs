@@ -1,11 +1,12 @@
 //! The crate's constants and sizes against what the library accepts, and the refusals' words.
 
 use lyra2::{
-    check, cost, derive, derive_recorded, walk, Lengths, Mixer, Parameters, Refusal, Settings,
-    COLUMNS, KEY_LENGTHS, PASSWORD_LENGTHS, ROTATIONS, ROUNDS, ROWS, SALT_LENGTHS, TIME_COSTS,
-    USUAL_MIXER, USUAL_ROTATION, USUAL_ROUNDS,
+    check, choose, cost, derive, derive_recorded, walk, Lengths, Limits, Mixer, Parameters,
+    Refusal, Settings, COLUMNS, KEY_LENGTHS, PASSWORD_LENGTHS, ROTATIONS, ROUNDS, ROWS,
+    SALT_LENGTHS, TIME_COSTS, USUAL_MIXER, USUAL_ROTATION, USUAL_ROUNDS,
 };
 use std::collections::BTreeSet;
+use std::fmt::Debug;
 use std::ops::RangeInclusive;
 
 const LENGTHS: Lengths = Lengths {
@@ -22,10 +23,10 @@ const MIXERS: [Mixer; 2] = [Mixer::Plain, Mixer::BlaMka];
 
 /// The numbers within the limits, and none beside them, must be accepted by the library. The refusals are
 /// those of a number below the limits and of one above.
-fn limits_hold(
+fn limits_hold<A: Debug + PartialEq>(
     limits: RangeInclusive<usize>,
     [below, above]: [Refusal; 2],
-    ask: impl Fn(usize) -> Result<lyra2::Counts, Refusal>,
+    ask: impl Fn(usize) -> Result<A, Refusal>,
 ) {
     for number in [*limits.start(), *limits.end()] {
         assert!(ask(number).is_ok(), "{above:?}: {number}");
@@ -67,6 +68,37 @@ fn the_named_limits_are_the_librarys() {
     limits_hold(COLUMNS, [Refusal::Columns; 2], |n| {
         cost(LENGTHS, of(1, 3, n), 1)
     });
+}
+
+#[test]
+fn the_named_limits_are_those_of_a_choice_of_costs() {
+    let ask = |key, password, salt, rounds, tries| {
+        let lengths = Lengths {
+            key,
+            password,
+            salt,
+        };
+        let limits = Limits {
+            words: 1000,
+            budget: 1000,
+            rounds,
+            tries,
+        };
+        choose(lengths, limits)
+    };
+    limits_hold(KEY_LENGTHS, [Refusal::KeyLength; 2], |n| {
+        ask(n, 31, 8, 1, 1)
+    });
+    limits_hold(PASSWORD_LENGTHS, [Refusal::PasswordLength; 2], |n| {
+        ask(32, n, 8, 1, 1)
+    });
+    let salts = [Refusal::SaltTooShort, Refusal::SaltTooLong];
+    limits_hold(SALT_LENGTHS, salts, |n| ask(32, 31, n, 1, 1));
+    limits_hold(ROUNDS, [Refusal::Rounds; 2], |n| ask(32, 31, 8, n, 1));
+    assert_eq!(ask(32, 31, 8, 1, 0), Err(Refusal::Tries));
+    for tries in [1, 256, 257, usize::MAX] {
+        assert!(ask(32, 31, 8, 1, tries).is_ok(), "{tries}");
+    }
 }
 
 /// The three operations that take settings, over a matrix and a record of the smallest size. What a refused call leaves
@@ -321,9 +353,9 @@ fn walk_questions() {
 }
 
 #[test]
-fn refusals_are_numbered_from_1_to_14_and_each_has_its_sentence() {
+fn refusals_are_numbered_from_1_to_16_and_each_has_its_sentence() {
     let numbers = Refusal::ALL.map(Refusal::number);
-    assert!(numbers.into_iter().eq(1..=14), "{numbers:?}");
+    assert!(numbers.into_iter().eq(1..=16), "{numbers:?}");
     let sentences = Refusal::ALL.map(|refusal| refusal.to_string());
     let named = [
         "1 to 1024",
@@ -340,6 +372,8 @@ fn refusals_are_numbered_from_1_to_14_and_each_has_its_sentence() {
         "have room",
         "rounds of a reduced call must be 1 to 12",
         "rotation must be 1 to 11 words",
+        "at least one column count",
+        "no T from 1 on, R and C fit",
     ];
     for (sentence, limit) in sentences.iter().zip(named) {
         assert!(sentence.contains(limit), "{sentence}");
