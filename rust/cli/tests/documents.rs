@@ -62,6 +62,9 @@ fn orders(document: &str, start: &str, between: &str) -> BTreeMap<String, String
     found
 }
 
+/// The order of the checks of a choice of costs.
+const CHOICE_CHECKS: &str = "1, 2, 3, 10, 13, 15, 16";
+
 #[test]
 fn the_orders_of_the_checks_are_the_second_programs() {
     let due: BTreeMap<_, _> = [
@@ -75,11 +78,14 @@ fn the_orders_of_the_checks_are_the_second_programs() {
     ]
     .map(|(name, checks)| (name.to_string(), listed(checks)))
     .into();
+    let mut with_choice = due.clone();
+    with_choice.insert("choose".to_string(), CHOICE_CHECKS.to_string());
     let header = document("include/lyra2.h");
-    assert_eq!(orders(&header, " *     ", "  "), due);
+    assert_eq!(orders(&header, " *     ", "  "), with_choice);
     let page = document("vectors/README.md");
     assert_eq!(orders(&page, "| `", " | "), due);
-    let code = ["operations", "line"].map(|name| document(&format!("rust/lyra2/src/{name}.rs")));
+    let code =
+        ["operations", "choice", "line"].map(|name| document(&format!("rust/lyra2/src/{name}.rs")));
     let comments = code.concat();
     let comments = comments
         .lines()
@@ -95,6 +101,8 @@ fn the_orders_of_the_checks_are_the_second_programs() {
         let sentence = format!("in the order of the checks: {}.", listed(checks));
         assert!(comments.contains(&sentence), "{sentence}");
     }
+    let sentence = format!("in the order of the checks: {CHOICE_CHECKS}.");
+    assert!(comments.contains(&sentence), "{sentence}");
 }
 
 /// The lines of a document that show bytes: an offset, a colon, and up to sixteen bytes.
