@@ -4,6 +4,7 @@
 
 #![forbid(unsafe_code)]
 
+mod choice;
 mod commands;
 mod end_state;
 mod estimate;
@@ -18,11 +19,14 @@ mod options;
 mod outcome;
 mod password;
 mod progress;
+mod quantity;
 mod random;
 mod reading;
 mod replacement;
 mod secret;
+mod speed;
 mod terminal;
+mod timing;
 mod usage;
 
 use failure::Failure;

@@ -18,7 +18,7 @@ use std::ffi::OsString;
 use std::path::PathBuf;
 
 /// What a group of options has that clap requires one of.
-const ONE_IS_GIVEN: &str = "clap requires one of the two";
+pub const ONE_IS_GIVEN: &str = "clap requires one of the two";
 
 #[derive(Args)]
 pub struct CostOptions {

@@ -10,6 +10,7 @@ const DERIVE: &str = "derive --salt 0011223344556677 --time 1 --rows 3 --columns
 const CHECK: &str = "check --salt 0011223344556677 --time 1 --rows 3 --columns 1";
 const LINE: &str = "line --time 1 --rows 3 --columns 1 --key-length 8";
 const COST: &str = "cost --time 1 --rows 3 --columns 1 --key-length 8 --salt-length 8";
+const CHOOSE: &str = "choose --words 36 --budget 999 --key-length 8";
 
 /// A command line, cut at spaces, and what its line of failure has to say.
 #[track_caller]
@@ -103,6 +104,7 @@ fn options() {
         ("login --line-file x", "--rotation"),
         ("login --line-file x", "--mixer"),
         (COST, "--rotation"),
+        (CHOOSE, "--rotation"),
     ] {
         let found = lyra2(&words(&format!("{line} {option} 2")), b"pass").failure();
         let due = format!("lyra2 {}: unknown option {option:?}", words(line)[0]);
@@ -155,6 +157,48 @@ fn options_that_exclude_each_other_or_are_missing() {
         let line = DERIVE.replace(option, "");
         says(&line, &format!("lyra2 derive: {name} is missing"));
     }
+}
+
+/// A choice takes one of two limits on the memory, and one of two on the time.
+#[test]
+fn limits_of_a_choice() {
+    let with = |option: &str| format!("{CHOOSE} {option}");
+    says(
+        &with("--memory 1M"),
+        "lyra2 choose: --words and --memory are both given",
+    );
+    says(
+        &with("--seconds 1"),
+        "lyra2 choose: --budget and --seconds are both given",
+    );
+    says(
+        &CHOOSE.replace("--words 36", ""),
+        "lyra2 choose: --memory or --words is missing",
+    );
+    says(
+        &CHOOSE.replace("--budget 999", ""),
+        "lyra2 choose: --budget or --seconds is missing",
+    );
+    says(
+        &CHOOSE.replace("--key-length 8", ""),
+        "lyra2 choose: --key-length is missing",
+    );
+    says(
+        "choose",
+        "lyra2 choose: --key-length, --memory or --words and --budget or --seconds are missing",
+    );
+    for option in ["--words 36", "--budget 999", "--key-length 8"] {
+        let due = format!("lyra2 choose: {} is given twice", words(option)[0]);
+        says(&with(option), &due);
+    }
+    says(
+        &with("--columns 4"),
+        "lyra2 choose: unknown option \"--columns\"; is --column-counts meant?",
+    );
+    says(
+        &with("1M"),
+        "lyra2 choose: an argument too many; choose takes options alone",
+    );
 }
 
 #[test]
@@ -255,7 +299,7 @@ fn mixers() {
     let trial = DERIVE.replace("derive", "trial") + " --output x";
     let check = format!("{CHECK} --key 00");
     let cost = format!("{COST} --password-length 1");
-    for line in [DERIVE, &check, &trial, &cost] {
+    for line in [DERIVE, &check, &trial, &cost, CHOOSE] {
         let name = words(line)[0];
         for text in [
             "BlaMka",

@@ -4,12 +4,13 @@ mod common;
 
 use common::{lyra2, words};
 
-const COMMANDS: [&str; 10] = [
+const COMMANDS: [&str; 11] = [
     "derive",
     "check",
     "line",
     "login",
     "cost",
+    "choose",
     "walk",
     "trial",
     "compare",
@@ -135,7 +136,7 @@ fn every_command_has_its_help_three_ways() {
 fn the_help_names_the_options_that_there_are() {
     let options =
         "password-file salt salt-file time rows columns rounds rotation mixer key-length key \
-                   key-file output password-length salt-length line-file";
+                   key-file output password-length salt-length line-file memory words budget seconds column-counts";
     for command in COMMANDS {
         let help = lyra2(&["help", command], b"").result();
         for option in words(options) {
@@ -185,7 +186,7 @@ fn the_usual_settings_are_said() {
             // Without the ends of lines, which depend on the width of the column.
             let text = words(text).join(" ");
             for words in [rounds, mixers, mixer] {
-                let has_it = has_all || command == "cost";
+                let has_it = has_all || ["cost", "choose"].contains(&command);
                 assert_eq!(text.contains(words), has_it, "{text}");
             }
             assert_eq!(text.contains(rotation), has_all, "{text}");

@@ -3,6 +3,7 @@
 use crate::failure::Failure;
 use crate::options::{decimal, CostOptions, KeyLengthOption, MixerOption, RoundsOption};
 use crate::outcome::Outcome;
+use crate::timing::in_digits;
 use crate::{estimate, help};
 use clap::Args;
 use lyra2::{Lengths, Settings};
@@ -60,7 +61,7 @@ impl Cost {
             counts.rounds,
             bytes(parameters.matrix_words()),
             bytes(parameters.record_words()),
-            estimate::in_digits(seconds),
+            in_digits(seconds),
         )))
     }
 }

@@ -1,6 +1,7 @@
 //! The list of the commands. Each stands in a module of its own and knows none of the others.
 
 mod check;
+mod choose;
 mod compare;
 mod completions;
 mod cost;
@@ -36,6 +37,7 @@ enum Command {
     Line(line::Line),
     Login(login::Login),
     Cost(cost::Cost),
+    Choose(choose::Choose),
     Walk(walk::Walk),
     Trial(trial::Trial),
     Compare(compare::Compare),
@@ -51,6 +53,7 @@ impl Command {
             Command::Line(line) => line.run(),
             Command::Login(login) => login.run(),
             Command::Cost(cost) => cost.run(),
+            Command::Choose(choose) => choose.run(),
             Command::Walk(walk) => walk.run(),
             Command::Trial(trial) => trial.run(),
             Command::Compare(compare) => compare.run(),

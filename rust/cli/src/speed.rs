@@ -1,0 +1,120 @@
+//! How fast derivations are that would be chosen for some seconds, measured on the spot.
+//!
+//! A round over a matrix beyond the caches takes longer than one within them, and so do pages that are fetched for the
+//! first time. So what is timed has the shape of what would be chosen, and brings its own matrix.
+
+use crate::choice::Question;
+use crate::failure::Failure;
+use crate::memory;
+use crate::timing::{derivation, median, TURNS};
+use lyra2::{Memory, Parameters, Settings};
+use std::ops::RangeInclusive;
+use std::time::{Duration, Instant};
+
+/// The budget of the first derivation, which takes some milliseconds.
+const FIRST_BUDGET: u64 = 100_000;
+/// How much longer than the one before a derivation is expected to take at most, since a short one tells little of a long one.
+const GROWTH: f64 = 8.0;
+/// The seconds that a derivation is expected to take at most.
+const LONGEST: f64 = 0.2;
+/// Which parts of the time that is aimed at are near enough.
+const NEAR: RangeInclusive<f64> = 0.7..=1.3;
+/// After this no other derivation is tried, so that all take about a second at most.
+const ENOUGH: Duration = Duration::from_millis(500);
+/// Words of the smallest page.
+const PAGE_WORDS: usize = 512;
+
+/// What a derivation takes.
+pub struct Speed {
+    /// Bytes of the matrix that was timed.
+    pub matrix_bytes: usize,
+    /// Seconds of a round.
+    round: f64,
+    /// Seconds of a byte of the matrix: to set it aside, and to wipe it and give it back.
+    byte: f64,
+}
+
+impl Speed {
+    /// Rounds in a second, once the matrix is there.
+    pub fn rounds_a_second(&self) -> f64 {
+        1.0 / self.round
+    }
+
+    /// The expected seconds for the memory of T, R and C.
+    pub fn aside(&self, parameters: Parameters) -> f64 {
+        self.byte * matrix_bytes(parameters) as f64
+    }
+
+    /// The expected seconds of a derivation with T, R and C that spends so many rounds, its memory counted.
+    pub fn expected(&self, parameters: Parameters, rounds: u64) -> f64 {
+        self.aside(parameters) + self.round * rounds as f64
+    }
+
+    /// Requires that the matrix of T, R and C can be had, where a smaller one was timed.
+    pub fn require_memory(&self, parameters: Parameters) -> Result<(), Failure> {
+        if matrix_bytes(parameters) > self.matrix_bytes {
+            memory::matrix(parameters)?;
+        }
+        Ok(())
+    }
+}
+
+/// Times derivations that are chosen for longer and longer times, up to the given one or the longest.
+pub fn measure(question: &Question, seconds: f64) -> Result<Speed, Failure> {
+    let (began, aim) = (Instant::now(), seconds.min(LONGEST));
+    let mut chosen = question.choose(FIRST_BUDGET)?.parameters;
+    let mut speed = speed_of(question.settings(chosen))?;
+    while began.elapsed() < ENOUGH {
+        let taken = speed.expected(chosen, question.spent(chosen)?);
+        if NEAR.contains(&(taken / aim)) {
+            break;
+        }
+        let budget = question.budget(aim.min(GROWTH * taken), &speed)?;
+        match question.choose(budget) {
+            Ok(next) if next.parameters != chosen => chosen = next.parameters,
+            // There is nothing longer to choose, or nothing as short.
+            _ => break,
+        }
+        speed = speed_of(question.settings(chosen))?;
+    }
+    Ok(speed)
+}
+
+/// The medians of some turns.
+fn speed_of(settings: Settings) -> Result<Speed, Failure> {
+    let (mut rounds, mut bytes) = ([0.0; TURNS], [0.0; TURNS]);
+    for (round, byte) in rounds.iter_mut().zip(&mut bytes) {
+        (*round, *byte) = turn(settings)?;
+    }
+    Ok(Speed {
+        matrix_bytes: matrix_bytes(settings.parameters),
+        round: median(rounds),
+        byte: median(bytes),
+    })
+}
+
+/// The seconds of a round and those of a byte, in one derivation with a matrix of its own.
+fn turn(settings: Settings) -> Result<(f64, f64), Failure> {
+    let began = Instant::now();
+    let mut matrix = memory::matrix(settings.parameters)?;
+    fetch(&mut matrix);
+    let fetched = began.elapsed();
+    let (seconds, counts) = derivation(settings, &mut matrix)?;
+    let ended = Instant::now();
+    drop(matrix);
+    let aside = (fetched + ended.elapsed()).as_secs_f64();
+    let bytes = matrix_bytes(settings.parameters);
+    Ok((seconds / counts.rounds as f64, aside / bytes as f64))
+}
+
+/// Writes to every page, since the system fetches a page that is not locked at its first use, which would then be Setup's.
+fn fetch(matrix: &mut Memory) {
+    for word in matrix.iter_mut().step_by(PAGE_WORDS) {
+        *word = 1;
+    }
+}
+
+/// Bytes of the matrix of T, R and C that no check refuses.
+pub fn matrix_bytes(parameters: Parameters) -> usize {
+    8 * parameters.matrix_words().unwrap_or(0)
+}
