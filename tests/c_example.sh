@@ -1,6 +1,7 @@
 #!/usr/bin/env bash
 # The C examples compile without a warning and print what is due, refusals included; the header also serves C11 and C++.
-# rust/derivation-link/tests/c_example.rs and rust/cli/tests/documents.rs hold what is due against the second program.
+# rust/derivation-link/tests/c_example.rs and rust/cli/tests/documents.rs hold what is due against the second program, and what
+# is chosen against the command line.
 set -eu
 cd "$(dirname "$0")/.."
 . tests/c/build.sh
@@ -135,4 +136,42 @@ done
 status=0
 printf '%s' "$password" | "$work/login" "${numbers[@]}" >/dev/full 2>"$work/log" || status=$?
 same 'a line that cannot be written' 'the line cannot be written 2' "$(cat "$work/log") $status"
-echo "the C examples print the key $key and its login line, and refuse with their sentences"
+
+# ---- the example of a choice of costs: for all column counts, for some, and each refusal that it can meet
+cc "${flags[@]}" examples/choose_costs.c "$library" -o "$work/choose"
+choose() { # STATUS DUE ARGUMENT..
+    local status=0 found
+    found=$("$work/choose" "${@:3}" 2>&1) || status=$?
+    same "the choice for ${*:3}" "$2" "$found"
+    same "status of the choice for ${*:3}" "$1" "$status"
+}
+chosen=$(cat examples/choose_costs.out)
+choose 0 "$chosen" 6291456 1000000
+for tries in 4 256 18446744073709551615; do
+    same "the choice of $tries column counts" "$(sed -n 1,2p <<<"$chosen")" "$("$work/choose" 6291456 1000000 $tries | sed -n 1,2p)"
+done
+while IFS= read -r shown; do
+    grep -qF "    $shown" docs/LINKING.md || { echo "docs/LINKING.md does not show '$shown'"; exit 1; }
+done <<<"$chosen"
+choose 0 'time 19, rows 16384, columns 3
+4718592 bytes of matrix, 983268 rounds
+no others that fit have more than these cells and 16384 more' 6291456 1000000 3
+choose 0 'time 255, rows 3, columns 1
+288 bytes of matrix, 996 rounds
+no others that fit have more than these cells and 0 more' 288 996 1
+choose 1 'refused 15: at least one column count has to be tried' 288 996 0
+choose 1 'refused 15: at least one column count has to be tried' 0 0 0
+for limits in '287 996' '288 233' '0 0' '18446744073709551615 233'; do
+    # The words are the arguments.
+    # shellcheck disable=SC2086
+    choose 1 'refused 16: no time cost from 1, rows and columns fit the matrix and the budget' $limits
+done
+for arguments in '' 288 '288 996 1 1' 'x 996' '288 996x' '-288 996' '288 996 x' '18446744073709551616 996'; do
+    status=0
+    # The words are the arguments.
+    # shellcheck disable=SC2086
+    "$work/choose" $arguments >"$work/out" 2>"$work/log" || status=$?
+    same "status of '$arguments'" 2 "$status"
+    grep -q '^usage: ' "$work/log" || { echo "no usage for '$arguments'"; exit 1; }
+done
+echo "the C examples print the key $key, its login line and a choice of costs, and refuse with their sentences"

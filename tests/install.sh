@@ -23,6 +23,7 @@ listed='0755 bin/lyra2
 0644 lib/pkgconfig/lyra2.pc
 0644 share/bash-completion/completions/lyra2
 0644 share/doc/lyra2/LICENSE
+0644 share/doc/lyra2/choose_costs.c
 0644 share/doc/lyra2/derive_and_check.c
 0644 share/doc/lyra2/installed.txt
 0644 share/doc/lyra2/login_line.c
@@ -43,7 +44,7 @@ same 'what the install says' "$(sed "s|^[0-7]* |installed $prefix/|" <<<"$listed
 cmp "$root/target/staticlib/libderivation_export.a" "$prefix/lib/liblyra2.a"
 cmp "$root/include/lyra2.h" "$prefix/include/lyra2.h"
 cmp "$root/LICENSE" "$prefix/share/doc/lyra2/LICENSE"
-for example in derive_and_check login_line; do
+for example in derive_and_check login_line choose_costs; do
     cmp "$root/examples/$example.c" "$prefix/share/doc/lyra2/$example.c"
 done
 while read -r _ file; do
@@ -78,6 +79,9 @@ example_prints() { # WHAT
     # shellcheck disable=SC2046
     cc -std=c99 -Wall -Werror $(pkg-config --cflags lyra2) login_line.c $(pkg-config --libs lyra2) -o login
     same 'the C example of a login line' yes "$(printf 'correct horse' | ./login line)"
+    # shellcheck disable=SC2046
+    cc -std=c99 -Wall -Werror $(pkg-config --cflags lyra2) choose_costs.c $(pkg-config --libs lyra2) -o choose
+    same 'the C example of a choice of costs' "$(cat "$root/examples/choose_costs.out")" "$(./choose 6291456 1000000)"
 )
 export PKG_CONFIG_PATH=$prefix/lib/pkgconfig
 eval "cc -std=c99 -Wall -Werror $(pkg-config --cflags lyra2) derive_and_check.c $(pkg-config --libs lyra2) -o example"
@@ -92,7 +96,7 @@ unset PKG_CONFIG_PATH
 groff -K utf8 -man -rHY=0 -Tutf8 -ww "$prefix/share/man/man1/lyra2.1" >"$work/page" 2>"$work/said"
 same 'warnings about the manual page' '' "$(cat "$work/said")"
 commands=$("$program" help | sed -nE 's/^  ([a-z][a-z-]*)(  .*)?$/\1/p')
-for command in derive check line login cost walk trial compare completions manual; do
+for command in derive check line login cost choose walk trial compare completions manual; do
     grep -qx "$command" <<<"$commands" || { echo "the help does not list $command"; exit 1; }
 done
 # What is bold or underlined has escapes around it, or is struck twice.

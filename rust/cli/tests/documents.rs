@@ -257,6 +257,27 @@ fn the_letters_of_the_page() {
 
 /// tests/c_example.sh holds the example to this.
 #[test]
+fn the_choice_of_the_c_example_is_the_programs() {
+    let line = "choose --memory 6291456 --budget 1000000 --key-length 32";
+    let printed = lyra2(&words(line), b"").result();
+    let value = |name: &str| {
+        let start = format!("{name}: ");
+        let mut lines = printed.lines().filter_map(|line| line.strip_prefix(&start));
+        lines.next().expect("the line is there")
+    };
+    let due = format!(
+        "time {}, rows {}, columns {}\n{} bytes of matrix, {} rounds\nno others that fit have more cells\n",
+        value("time"),
+        value("rows"),
+        value("columns"),
+        value("matrix bytes"),
+        value("rounds"),
+    );
+    assert_eq!(document("examples/choose_costs.out"), due);
+}
+
+/// tests/c_example.sh holds the example to this.
+#[test]
 fn the_line_of_the_c_example_is_the_second_programs() {
     let line = Line::of_password(b"correct horse", [1, 256, 64], b"salt of 16 bytes", 32).write();
     assert_eq!(document("examples/login_line.out"), line + "\n");
