@@ -13,7 +13,7 @@ use lyra2::{Lengths, Settings};
 #[command(after_help = help::paragraphs(&[
     "The full calls, the reduced calls and the rounds of a derivation with these numbers are printed, the bytes of the \
      matrix and of the visit record, and the expected seconds. No password is asked for, and no rotation, which changes \
-     none of them. The mixer changes the seconds alone.",
+     none of them. The mixer changes the seconds alone. `lyra2 choose` finds T, R and C for a memory and a time.",
     "The seconds are an estimate: a derivation with the same rounds of a reduced call and the same mixer over a matrix of \
      at most 6 MiB is timed three times on the spot, and its median is scaled by the number of reduced calls. Setting \
      memory aside comes on top, and a matrix beyond the processor's caches or a busy machine takes longer.",
