@@ -72,8 +72,9 @@ impl Question {
     /// The expected seconds of the choice for a budget; none where nothing fits, so that too short a time comes to the
     /// refusal that says so.
     fn expected(&self, budget: u64, speed: &Speed) -> f64 {
-        let chosen = self.choose(budget).map(|choice| choice.parameters);
-        let expected = chosen.and_then(|chosen| Ok(speed.expected(chosen, self.spent(chosen)?)));
-        expected.unwrap_or(0.0)
+        let choice = self.choose(budget);
+        choice.map_or(0.0, |choice| {
+            speed.expected(self.settings(choice.parameters))
+        })
     }
 }

@@ -1,7 +1,8 @@
 //! How fast derivations are that would be chosen for some seconds, measured on the spot.
 //!
 //! A round over a matrix beyond the caches takes longer than one within them, and so do pages that are fetched for the
-//! first time. So what is timed has the shape of what would be chosen, and brings its own matrix.
+//! first time. So what is timed has the shape of what would be chosen, and brings its own matrix. What a matrix costs once
+//! and what its visits cost is told apart, since T is mostly chosen larger than there is time to measure.
 
 use crate::choice::Question;
 use crate::failure::Failure;
@@ -24,31 +25,36 @@ const NEAR: RangeInclusive<f64> = 0.7..=1.3;
 const ENOUGH: Duration = Duration::from_millis(400);
 /// Words of the smallest page.
 const PAGE_WORDS: usize = 512;
+/// The part of a derivation that visits take at least, whatever disturbs the turns: they make half of its reduced calls
+/// or more.
+const LEAST_VISITS: f64 = 0.25;
 
 /// What a derivation takes.
 pub struct Speed {
     /// Bytes of the matrix that was timed.
     pub matrix_bytes: usize,
-    /// Seconds of a round.
+    /// Seconds of a cell without its visits: to set it aside and fill it, and in the end to wipe it and give it back.
+    cell: f64,
+    /// Seconds of a round of the visits.
     round: f64,
-    /// Seconds of a byte of the matrix: to set it aside, and to wipe it and give it back.
-    byte: f64,
 }
 
 impl Speed {
-    /// Rounds in a second, once the matrix is there.
+    /// The rounds of visits in a second.
     pub fn rounds_a_second(&self) -> f64 {
         1.0 / self.round
     }
 
-    /// The expected seconds for the memory of T, R and C.
-    pub fn aside(&self, parameters: Parameters) -> f64 {
-        self.byte * matrix_bytes(parameters) as f64
+    /// The expected seconds of a derivation without its visits, its memory counted.
+    pub fn expected_without_visits(&self, parameters: Parameters) -> f64 {
+        self.cell * cells(parameters)
     }
 
-    /// The expected seconds of a derivation with T, R and C that spends so many rounds, its memory counted.
-    pub fn expected(&self, parameters: Parameters, rounds: u64) -> f64 {
-        self.aside(parameters) + self.round * rounds as f64
+    /// The expected seconds of a derivation, its memory counted. Full calls are too few to matter.
+    pub fn expected(&self, settings: Settings) -> f64 {
+        let parameters = settings.parameters;
+        let calls = cells(parameters) * parameters.time as f64;
+        self.expected_without_visits(parameters) + self.round * calls * settings.rounds as f64
     }
 
     /// Requires that the matrix of T, R and C can be had, where a smaller one was timed.
@@ -67,7 +73,7 @@ pub fn measure(question: &Question, seconds: f64) -> Result<Speed, Failure> {
     let mut chosen = question.choose(FIRST_BUDGET)?.parameters;
     let mut speed = speed_of(question.settings(chosen))?;
     while began.elapsed() < ENOUGH {
-        let taken = speed.expected(chosen, question.spent(chosen)?);
+        let taken = speed.expected(question.settings(chosen));
         if NEAR.contains(&(taken / aim)) {
             break;
         }
@@ -84,29 +90,40 @@ pub fn measure(question: &Question, seconds: f64) -> Result<Speed, Failure> {
 
 /// The medians of some turns.
 fn speed_of(settings: Settings) -> Result<Speed, Failure> {
-    let (mut rounds, mut bytes) = ([0.0; TURNS], [0.0; TURNS]);
-    for (round, byte) in rounds.iter_mut().zip(&mut bytes) {
-        (*round, *byte) = turn(settings)?;
+    let (mut setups, mut wholes) = ([0.0; TURNS], [0.0; TURNS]);
+    for (setup, whole) in setups.iter_mut().zip(&mut wholes) {
+        (*setup, *whole) = turn(settings)?;
     }
+    let (setup, whole) = (median(setups), median(wholes));
+    let visits = (whole - setup).max(whole * LEAST_VISITS);
+    let parameters = settings.parameters;
+    let rounds = cells(parameters) * (parameters.time * settings.rounds) as f64;
     Ok(Speed {
-        matrix_bytes: matrix_bytes(settings.parameters),
-        round: median(rounds),
-        byte: median(bytes),
+        matrix_bytes: matrix_bytes(parameters),
+        cell: (whole - visits) / cells(parameters),
+        round: visits / rounds,
     })
 }
 
-/// The seconds of a round and those of a byte, in one derivation with a matrix of its own.
+/// The seconds of a derivation with a matrix of its own: without its visits, and with them.
 fn turn(settings: Settings) -> Result<(f64, f64), Failure> {
+    let setup = Settings {
+        parameters: Parameters {
+            time: 0,
+            ..settings.parameters
+        },
+        ..settings
+    };
     let began = Instant::now();
     let mut matrix = memory::matrix(settings.parameters)?;
     fetch(&mut matrix);
     let fetched = began.elapsed();
-    let (seconds, counts) = derivation(settings, &mut matrix)?;
+    let (setup, _) = derivation(setup, &mut matrix)?;
+    let (whole, _) = derivation(settings, &mut matrix)?;
     let ended = Instant::now();
     drop(matrix);
     let aside = (fetched + ended.elapsed()).as_secs_f64();
-    let bytes = matrix_bytes(settings.parameters);
-    Ok((seconds / counts.rounds as f64, aside / bytes as f64))
+    Ok((aside + setup, aside + whole))
 }
 
 /// Writes to every page, since the system fetches a page that is not locked at its first use, which would then be Setup's.
@@ -114,6 +131,11 @@ fn fetch(matrix: &mut Memory) {
     for word in matrix.iter_mut().step_by(PAGE_WORDS) {
         *word = 1;
     }
+}
+
+/// Cells of the matrix.
+fn cells(parameters: Parameters) -> f64 {
+    parameters.rows as f64 * parameters.columns as f64
 }
 
 /// Bytes of the matrix of T, R and C that no check refuses.

@@ -309,11 +309,11 @@ fn the_notes_of_the_times() {
             .find(|line| line.starts_with(start))
             .expect("a line")
     };
-    let measured = " (measured just now, over a matrix of 288 bytes)";
+    let measured = " (of visits to a matrix of 288 bytes, measured just now)";
     assert!(line("rounds a second: ").ends_with(measured), "{output}");
     let estimate = line("expected seconds: ");
     assert!(estimate.contains(" (an estimate, of which 0.0"), "{output}");
-    assert!(estimate.ends_with(" are for setting the matrix aside and giving it back)"));
+    assert!(estimate.ends_with(" are for setting the matrix aside, filling and wiping it)"));
 }
 
 /// The printed options, with a salt, derive the second program's key.

@@ -9,7 +9,8 @@ use crate::timing::in_digits;
 use crate::{help, mixer, quantity};
 use clap::{ArgGroup, Args};
 use lyra2::{
-    Choice, Lengths, CELL_WORDS, COLUMNS, PASSWORD_LENGTHS, SALT_LENGTHS, USUAL_MIXER, USUAL_ROUNDS,
+    Choice, Lengths, Settings, CELL_WORDS, COLUMNS, PASSWORD_LENGTHS, SALT_LENGTHS, USUAL_MIXER,
+    USUAL_ROUNDS,
 };
 
 /// Bytes of a word.
@@ -31,7 +32,8 @@ const WORD: u64 = 8;
          counts are tried, that none that fit have more cells at all. The last line has the options for `lyra2 derive`.",
         "With --seconds the rounds come from derivations that are timed on the spot, which takes about a second. They have the \
          given rounds of a reduced call, the given mixer and the shape that would be chosen, first for some milliseconds and \
-         in the end for the given seconds, or for 0.15 where more are given. Each is timed three times, and the medians count. \
+         in the end for the given seconds, or for 0.15 where more are given. Each is timed three times with its visits and \
+         without, and the medians count. \
          Allowed are then the most rounds whose choice is expected to take no longer. All that a derivation needs is counted, \
          also to set the matrix aside and to wipe it and give it back: who keeps a matrix for many derivations waits less. The \
          seconds are an estimate for this machine as it is now. So measure on the gateway, and leave room for what else it does.",
@@ -88,10 +90,11 @@ impl Choose {
             speed.require_memory(choice.parameters)?;
         }
         let rounds = question.spent(choice.parameters)?;
+        let chosen = question.settings(choice.parameters);
         let lines = [
             self.costs(choice, rounds, budget),
             self.shortfall(choice),
-            speed.map_or(String::new(), |speed| times(&speed, choice, rounds)),
+            speed.map_or(String::new(), |speed| times(&speed, chosen)),
             self.options(choice),
         ];
         Ok(Outcome::result(lines.concat()))
@@ -163,14 +166,13 @@ impl Choose {
 }
 
 /// How fast derivations were, and how long the chosen one is expected to take.
-fn times(speed: &Speed, choice: Choice, rounds: u64) -> String {
-    let chosen = choice.parameters;
+fn times(speed: &Speed, chosen: Settings) -> String {
     format!(
-        "rounds a second: {:.0} (measured just now, over a matrix of {} bytes)\n\
-         expected seconds: {} (an estimate, of which {} are for setting the matrix aside and giving it back)\n",
+        "rounds a second: {:.0} (of visits to a matrix of {} bytes, measured just now)\n\
+         expected seconds: {} (an estimate, of which {} are for setting the matrix aside, filling and wiping it)\n",
         speed.rounds_a_second(),
         speed.matrix_bytes,
-        in_digits(speed.expected(chosen, rounds)),
-        in_digits(speed.aside(chosen)),
+        in_digits(speed.expected(chosen)),
+        in_digits(speed.expected_without_visits(chosen.parameters)),
     )
 }
