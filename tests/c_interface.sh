@@ -1,14 +1,14 @@
 #!/usr/bin/env bash
 # The C interface from C: what the archive exports and needs, the header's limits, the refusals in pairs, visit records, login
-# lines, the stack, what is left on it, and the vectors; and wrong headers, wrong vectors and faulty libraries, which these
-# tests have to find.
+# lines, choices of costs, the stack, what is left on it, and the vectors; and wrong headers, wrong vectors and faulty
+# libraries, which these tests have to find.
 set -eu
 cd "$(dirname "$0")/.."
 . tests/c/build.sh
 
-# ---- the archive: eight functions, nothing needed from elsewhere, no section to write in
+# ---- the archive: nine functions, nothing needed from elsewhere, no section to write in
 names=$(nm -g --defined-only "$library" 2>"$work/log" | sed -n 's/^[0-9a-f]* //p' | sort | tr '\n' ' ')
-same 'exported names' "$(printf 'T lyra2_%s ' check cost derive derive_recorded line_read line_write record_pair walk)" "$names"
+same 'exported names' "$(printf 'T lyra2_%s ' check choose cost derive derive_recorded line_read line_write record_pair walk)" "$names"
 nm -u "$library" >"$work/undefined" 2>"$work/log"
 same 'names from elsewhere' '' "$(sed -n 's/^ *[Uwv] //p' "$work/undefined")"
 readelf -SW "$library" >"$work/sections"
@@ -16,19 +16,21 @@ grep -q ' AX ' "$work/sections" || { echo 'readelf shows no code'; exit 1; }
 same 'sections to write in' '' "$(grep -E ' (WA|WAT|AW)[A-Z]* ' "$work/sections" || true)"
 
 # ---- the programs
-compile limits refusals records lines stack left left_lines marked vectors fields calls line_calls lent
+compile limits refusals records lines choosing stack left left_lines marked vectors fields calls line_calls choice_calls lent
 cc "${flags[@]}" "$work"/{limits,calls,lent}.o "$library" -o "$work/limits"
 cc "${flags[@]}" "$work"/{refusals,calls,lent}.o "$library" -o "$work/refusals"
 cc "${flags[@]}" "$work"/{records,calls,lent}.o "$library" -o "$work/records"
 cc "${flags[@]}" "$work"/{lines,calls,line_calls,lent}.o "$library" -o "$work/lines"
+cc "${flags[@]}" "$work"/{choosing,calls,choice_calls,lent}.o "$library" -o "$work/choosing"
 cc "${flags[@]}" "$work"/{stack,marked,lent}.o "$library" -o "$work/stack"
 cc "${flags[@]}" "$work"/{left,marked,calls,lent}.o "$library" -o "$work/left"
 cc "${flags[@]}" "$work"/{left_lines,marked,lent}.o "$library" -o "$work/left_lines"
-cc "${flags[@]}" "$work"/{vectors,fields,calls,line_calls,lent}.o "$library" -o "$work/vectors"
+cc "${flags[@]}" "$work"/{vectors,fields,calls,line_calls,choice_calls,lent}.o "$library" -o "$work/vectors"
 "$work/limits"
 "$work/refusals"
 "$work/records"
 "$work/lines"
+"$work/choosing"
 "$work/stack"
 "$work/left"
 "$work/left_lines"
@@ -36,7 +38,7 @@ cc "${flags[@]}" "$work"/{vectors,fields,calls,line_calls,lent}.o "$library" -o 
 cat "$work/ran"
 
 # Every line of the file was put to the library, as grep counts them.
-for op in derive_recorded derive check cost walk line_read line_write; do
+for op in derive_recorded derive check cost choose walk line_read line_write; do
     lines=$(grep -c " op=$op " vectors/lyra2.txt)
     grep -qE " $lines $op( lines|,)" "$work/ran" || { echo "not all $lines lines of $op were run"; exit 1; }
 done
@@ -50,8 +52,8 @@ while read -r edit; do
     ! cmp -s include/lyra2.h "$work/include/lyra2.h" || { echo "no header to spoil: $edit"; exit 1; }
     passes=yes
     for program in limits records lines vectors; do
-        cc -std=c99 -I"$work/include" tests/c/{$program,fields,calls,line_calls,lent}.c "$library" -o "$work/wrong" \
-            >"$work/log" 2>&1 && "$work/wrong" "$work/few" >"$work/log" 2>&1 || { passes=no; break; }
+        cc -std=c99 -I"$work/include" tests/c/{$program,fields,calls,line_calls,choice_calls,lent}.c "$library" \
+            -o "$work/wrong" >"$work/log" 2>&1 && "$work/wrong" "$work/few" >"$work/log" 2>&1 || { passes=no; break; }
     done
     [ $passes = no ] || { echo "a wrong header passes: $edit"; exit 1; }
     grep -qE '^FAILED: |: error: too many arguments to function' "$work/log" || { cat "$work/log"; exit 1; }
@@ -110,7 +112,7 @@ s/TOO_SHORT = 3/TOO_SHORT = 10/; s/TOO_LONG = 10/TOO_LONG = 3/
 s/at least 8 bytes/at least 9 bytes/
 s/at most 64 bytes/at most 65 bytes/
 s/REFUSED_ROUNDS = 13/REFUSED_ROUNDS = 14/; s/REFUSED_ROTATION = 14/REFUSED_ROTATION = 13/
-s/REFUSED_ROTATION = 14/REFUSED_ROTATION = 15/
+s/REFUSED_ROTATION = 14/REFUSED_ROTATION = 99/
 s/1 to 12 rounds/1 to 13 rounds/
 s/1 to 11 words/1 to 10 words/
 s/1 to 11 words/2 to 11 words/
@@ -133,7 +135,7 @@ END
 wrong=0
 for spoilt in derive_recorded:{key,state,full,reduced,rounds,matrix_sum,record_sum,matrix,record,rho,omega,mixer} \
     derive:{key,matrix_sum,rho,omega,mixer} check:{answer,matrix_sum,full,rho,omega,mixer} cost:{full,rounds,rho} \
-    walk:row1 line_read:{T,R,C,salt,key} line_write:line; do
+    choose:{T,R,C,shortfall,rho,matrix_words} walk:row1 line_read:{T,R,C,salt,key} line_write:line; do
     field=${spoilt#*:}
     line=$(grep " op=${spoilt%:*} .* refusal=0 " vectors/lyra2.txt | grep " $field=" | grep -v " answer=no " | sed -n 1p)
     changed=$(sed -E "s/ $field=yes/ $field=NO/; s/ $field=no/ $field=yes/; s/ $field=NO/ $field=no/
@@ -149,7 +151,7 @@ done
 # ---- faulty libraries
 build_faulty() { # FAULT PROGRAM
     compile_fault "$1"
-    cc "$wrapped" "$work"/{"$2",fields,calls,line_calls,lent}.o "${faulty[@]}" "$library" -o "$work/faulty" || exit 1
+    cc "$wrapped" "$work"/{"$2",fields,calls,line_calls,choice_calls,lent}.o "${faulty[@]}" "$library" -o "$work/faulty" || exit 1
 }
 is_found() { # FAULT PROGRAM..
     local program

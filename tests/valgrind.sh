@@ -13,13 +13,13 @@ memcheck() { # PROGRAM ARGUMENT..
 }
 
 flags+=(-g)
-compile memcheck memcheck_lines watched refusals records lines vectors fields calls line_calls lent
+compile memcheck memcheck_lines watched refusals records lines vectors fields calls line_calls choice_calls lent
 cc "$work"/{memcheck,watched,calls,lent}.o "$library" -o "$work/memcheck"
 cc "$work"/{memcheck_lines,watched,calls,lent}.o "$library" -o "$work/memcheck_lines"
 cc "$work"/{refusals,calls,lent}.o "$library" -o "$work/refusals"
 cc "$work"/{records,calls,lent}.o "$library" -o "$work/records"
 cc "$work"/{lines,calls,line_calls,lent}.o "$library" -o "$work/lines"
-cc "$work"/{vectors,fields,calls,line_calls,lent}.o "$library" -o "$work/vectors"
+cc "$work"/{vectors,fields,calls,line_calls,choice_calls,lent}.o "$library" -o "$work/vectors"
 # A pipe would hide the status.
 memcheck "$work/memcheck" >"$work/ran"
 memcheck "$work/memcheck_lines" >>"$work/ran"

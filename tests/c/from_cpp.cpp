@@ -5,6 +5,7 @@ static_assert(LYRA2_MATRIX_WORDS(3, 1) == 36, "the smallest matrix");
 static_assert(LYRA2_VISIT_WORDS(1) == 2 && LYRA2_VISIT_WORDS(LYRA2_COLUMNS_MAX) == 257, "the visits in a record");
 static_assert(LYRA2_RECORD_WORDS(1, 3, 1) == 6, "the smallest record");
 static_assert(LYRA2_RECORD_WORDS(LYRA2_TIME_MAX, LYRA2_ROWS_MAX, LYRA2_COLUMNS_MAX) == 1073725440, "the largest record");
+static_assert(LYRA2_CHOICE_VALUES == 4 && LYRA2_REFUSED_TRIES == 15 && LYRA2_REFUSED_NOTHING_FITS == 16, "the choice");
 static_assert(!LYRA2_MIXER_PLAIN && LYRA2_MIXER_BLAMKA, "the two mixers");
 
 // A word of the record is taken apart into these two numbers, and nothing beside them is written.
@@ -16,8 +17,24 @@ static bool is_pair(uint64_t word, uint64_t low, uint64_t high)
     return numbers[0] == guard && numbers[1] == low && numbers[2] == high && numbers[3] == guard;
 }
 
+// All memory and rounds that there are leave the greatest costs, and nothing beside the four values is written.
+static bool chooses_the_greatest()
+{
+    const size_t guard = 0xa5a5a5a5a5a5a5a5;
+    size_t values[LYRA2_CHOICE_VALUES + 2] = {guard, guard, guard, guard, guard, guard};
+    const size_t *choice = values + 1;
+    if (lyra2_choose(32, 31, 8, SIZE_MAX, UINT64_MAX, LYRA2_REDUCED_ROUNDS_USUAL, LYRA2_COLUMNS_MAX, values + 1)
+        != LYRA2_ACCEPTED)
+        return false;
+    return values[0] == guard && values[LYRA2_CHOICE_VALUES + 1] == guard
+        && choice[LYRA2_CHOICE_TIME] == LYRA2_TIME_MAX && choice[LYRA2_CHOICE_ROWS] == LYRA2_ROWS_MAX
+        && choice[LYRA2_CHOICE_COLUMNS] == LYRA2_COLUMNS_MAX && choice[LYRA2_CHOICE_SHORTFALL] == 0;
+}
+
 int main()
 {
+    if (!chooses_the_greatest())
+        return 1;
     if (!is_pair(0, 0, 0) || !is_pair(65535, 65535, 0) || !is_pair(65536, 0, 1) || !is_pair(UINT32_MAX, 65535, 65535)
         || !is_pair(UINT64_C(1) << 32, 0, 65536) || !is_pair(UINT64_MAX, 65535, 281474976710655))
         return 1;

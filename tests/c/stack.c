@@ -5,17 +5,17 @@
 
 #include <stdio.h>
 
-enum { ROWS = 20, COLUMNS = 17, TIME = 2, OPERATIONS_RUN = 8 };
+enum { ROWS = 20, COLUMNS = 17, TIME = 2, OPERATIONS_RUN = 9 };
 
 /* A record and a line are written before they are read. */
-static const char *const names[OPERATIONS_RUN] = {"derive", "derive_recorded", "check",      "cost",
+static const char *const names[OPERATIONS_RUN] = {"derive", "derive_recorded", "check",      "cost",     "choose",
                                                   "walk",   "record_pair",     "line_write", "line_read"};
 static const uint8_t password[LYRA2_PASSWORD_MAX], salt[LYRA2_SALT_MAX];
 static uint8_t key[LYRA2_KEY_MAX];
 static uint64_t matrix[LYRA2_MATRIX_WORDS(ROWS, COLUMNS)], record[LYRA2_RECORD_WORDS(TIME, ROWS, COLUMNS)];
 static uint64_t state[LYRA2_STATE_WORDS], counts[LYRA2_COUNTS], numbers[2];
 static uint32_t same, answer;
-static size_t row1;
+static size_t choice[LYRA2_CHOICE_VALUES], row1;
 static uint8_t line[LYRA2_LINE_MAX], read_salt[LYRA2_SALT_MAX];
 static size_t line_len, values[LYRA2_LINE_VALUES];
 
@@ -52,13 +52,16 @@ static void call(void)
         answer = lyra2_cost(sizeof key, sizeof password, sizeof salt, TIME, ROWS, COLUMNS, rounds, counts);
         break;
     case 4:
-        answer = lyra2_walk(ROWS, ROWS - 1, &row1);
+        answer = lyra2_choose(sizeof key, sizeof password, sizeof salt, SIZE_MAX, UINT64_MAX, rounds, SIZE_MAX, choice);
         break;
     case 5:
+        answer = lyra2_walk(ROWS, ROWS - 1, &row1);
+        break;
+    case 6:
         answer = LYRA2_ACCEPTED; /* which it does not say, for it refuses nothing */
         lyra2_record_pair(record[0], numbers);
         break;
-    case 6:
+    case 7:
         answer = lyra2_line_write(LYRA2_TIME_MAX, LYRA2_ROWS_MAX, LYRA2_COLUMNS_MAX, salt, sizeof salt, key, sizeof key,
                                   line, sizeof line, &line_len);
         break;

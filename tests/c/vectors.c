@@ -3,6 +3,7 @@
  * the recorded derivation is put to the other operations as well, which share its key and counts.
  */
 #include "calls.h"
+#include "choice_calls.h"
 #include "fields.h"
 #include "line_calls.h"
 
@@ -18,7 +19,7 @@ struct question {
 };
 
 static const struct sizes no_sizes;
-static size_t lines_of[OPERATIONS], walk_lines, read_lines, write_lines;
+static size_t lines_of[OPERATIONS], choice_lines, walk_lines, read_lines, write_lines;
 
 /* FNV-1a over words, the lowest byte of each first. */
 static uint64_t checksum(const uint64_t *words, size_t count)
@@ -170,6 +171,28 @@ static void run_line(struct text line, enum operation operation)
     free(asked.stored);
 }
 
+static void run_choice(struct text line)
+{
+    struct choice_sizes asked = {
+        .key = require_number(line, "key_len"),
+        .password = require_number(line, "password_len"),
+        .salt = require_number(line, "salt_len"),
+        .matrix = require_number(line, "matrix_words"),
+        .budget = require_number(line, "budget"),
+        .rounds = require_number(line, "rho"),
+        .tries = require_number(line, "tries"),
+    };
+    struct choice due = refused_choice((uint32_t)require_number(line, "refusal"));
+    if (due.answer == LYRA2_ACCEPTED) {
+        due.time = require_number(line, "T");
+        due.rows = require_number(line, "R");
+        due.columns = require_number(line, "C");
+        due.shortfall = require_number(line, "shortfall");
+    }
+    require_chosen("as the line says", &asked, due);
+    choice_lines++;
+}
+
 static void run_walk(struct text line)
 {
     size_t row1, due = require_number(line, "refusal");
@@ -255,7 +278,9 @@ static void run_any(struct text line)
             run_line(line, operation);
             return;
         }
-    if (is(name, "walk"))
+    if (is(name, "choose"))
+        run_choice(line);
+    else if (is(name, "walk"))
         run_walk(line);
     else if (is(name, "line_read"))
         run_line_read(line);
@@ -298,7 +323,7 @@ int main(int count, char **arguments)
     printf("vectors:");
     for (enum operation operation = RECORDED; operation < OPERATIONS; operation++)
         printf(" %zu %s,", lines_of[operation], operation_names[operation]);
-    printf(" %zu walk, %zu line_read, %zu line_write lines; %zu calls\n", walk_lines, read_lines, write_lines,
-           calls_made);
+    printf(" %zu choose, %zu walk, %zu line_read, %zu line_write lines; %zu calls\n", choice_lines, walk_lines,
+           read_lines, write_lines, calls_made);
     return 0;
 }
