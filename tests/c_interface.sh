@@ -16,12 +16,13 @@ grep -q ' AX ' "$work/sections" || { echo 'readelf shows no code'; exit 1; }
 same 'sections to write in' '' "$(grep -E ' (WA|WAT|AW)[A-Z]* ' "$work/sections" || true)"
 
 # ---- the programs
-compile limits refusals records lines choosing stack left left_lines marked vectors fields calls line_calls choice_calls lent
+compile limits refusals records lines choosing triples stack left left_lines marked vectors fields calls line_calls choice_calls lent
 cc "${flags[@]}" "$work"/{limits,calls,lent}.o "$library" -o "$work/limits"
 cc "${flags[@]}" "$work"/{refusals,calls,lent}.o "$library" -o "$work/refusals"
 cc "${flags[@]}" "$work"/{records,calls,lent}.o "$library" -o "$work/records"
 cc "${flags[@]}" "$work"/{lines,calls,line_calls,lent}.o "$library" -o "$work/lines"
 cc "${flags[@]}" "$work"/{choosing,calls,choice_calls,lent}.o "$library" -o "$work/choosing"
+cc "${flags[@]}" "$work"/{triples,calls,choice_calls,lent}.o "$library" -o "$work/triples"
 cc "${flags[@]}" "$work"/{stack,marked,lent}.o "$library" -o "$work/stack"
 cc "${flags[@]}" "$work"/{left,marked,calls,lent}.o "$library" -o "$work/left"
 cc "${flags[@]}" "$work"/{left_lines,marked,lent}.o "$library" -o "$work/left_lines"
@@ -31,6 +32,7 @@ cc "${flags[@]}" "$work"/{vectors,fields,calls,line_calls,choice_calls,lent}.o "
 "$work/records"
 "$work/lines"
 "$work/choosing"
+"$work/triples"
 "$work/stack"
 "$work/left"
 "$work/left_lines"
