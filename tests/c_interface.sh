@@ -45,20 +45,35 @@ for op in derive_recorded derive check cost choose walk line_read line_write; do
     grep -qE " $lines $op( lines|,)" "$work/ran" || { echo "not all $lines lines of $op were run"; exit 1; }
 done
 
+# An answer that nobody looks at is warned of.
+warned() { # FOLDER
+    cc -std=c99 -I"$1" -c tests/c/careless.c -o "$work/careless.o" 2>&1 | grep -c 'Wunused-result'
+}
+same 'warnings of ignored answers' 8 "$(warned include)"
+
 # ---- wrong headers: a constant, a sentence or a declaration changed. The usual settings are those of lines that have none.
 grep ' op=derive .* refusal=0 ' vectors/lyra2.txt | grep -vE ' (rho|omega|mixer)=' | sed -n 1,5p >"$work/few"
 mkdir "$work/include"
+# Whether a test fails with the header in $work/include; what it says is in the log.
+is_noticed() {
+    local name
+    for name in calls line_calls choice_calls limits records lines vectors choosing; do
+        cc -std=c99 -Werror=int-conversion -Werror=incompatible-pointer-types -I"$work/include" \
+            -c "tests/c/$name.c" -o "$work/include/$name.o" >"$work/log" 2>&1 || return 0
+        [[ $name != *calls ]] || continue
+        cc "$work/include"/{$name,calls,line_calls,choice_calls}.o "$work"/{fields,lent}.o "$library" -o "$work/wrong" || exit 1
+        "$work/wrong" "$work/few" >"$work/log" 2>&1 || return 0
+    done
+    [ "$(warned "$work/include")" != 8 ] || return 1
+    echo 'FAILED: an answer may be ignored' >"$work/log"
+}
 headers=0
 while read -r edit; do
     sed "$edit" include/lyra2.h >"$work/include/lyra2.h"
     ! cmp -s include/lyra2.h "$work/include/lyra2.h" || { echo "no header to spoil: $edit"; exit 1; }
-    passes=yes
-    for program in limits records lines vectors; do
-        cc -std=c99 -I"$work/include" tests/c/{$program,fields,calls,line_calls,choice_calls,lent}.c "$library" \
-            -o "$work/wrong" >"$work/log" 2>&1 && "$work/wrong" "$work/few" >"$work/log" 2>&1 || { passes=no; break; }
-    done
-    [ $passes = no ] || { echo "a wrong header passes: $edit"; exit 1; }
-    grep -qE '^FAILED: |: error: too many arguments to function' "$work/log" || { cat "$work/log"; exit 1; }
+    is_noticed || { echo "a wrong header passes: $edit"; exit 1; }
+    grep -qE '^FAILED: |: error: (too (many|few) arguments to function|passing argument [0-9]+ of)' "$work/log" \
+        || { cat "$work/log"; exit 1; }
     headers=$((headers + 1))
 done <<'END'
 s/KEY_MIN 1/KEY_MIN 2/
@@ -131,6 +146,34 @@ s/REFUSED_OUTPUT = 12/REFUSED_OUTPUT = 13/; s/REFUSED_ROUNDS = 13/REFUSED_ROUNDS
 s/form [$]lyra2[$]t=T,r=R,c=C/form $lyra2$t=T,c=C,r=R/
 s/a lent output is too short/a lent output is too long/
 s/a lent output is too short/the line is not of the form $lyra2$t=T,r=R,c=C$SALT$KEY/
+s/CHOICE_VALUES 4/CHOICE_VALUES 3/
+s/CHOICE_VALUES 4/CHOICE_VALUES 5/
+s/CHOICE_TIME 0/CHOICE_TIME 1/; s/CHOICE_ROWS 1/CHOICE_ROWS 0/
+s/CHOICE_ROWS 1/CHOICE_ROWS 2/; s/CHOICE_COLUMNS 2/CHOICE_COLUMNS 1/
+s/CHOICE_COLUMNS 2/CHOICE_COLUMNS 3/; s/CHOICE_SHORTFALL 3/CHOICE_SHORTFALL 2/
+s/CHOICE_TIME 0/CHOICE_TIME 3/; s/CHOICE_SHORTFALL 3/CHOICE_SHORTFALL 0/
+s/REFUSED_TRIES = 15/REFUSED_TRIES = 16/; s/REFUSED_NOTHING_FITS = 16/REFUSED_NOTHING_FITS = 15/
+s/REFUSED_ROTATION = 14/REFUSED_ROTATION = 15/; s/REFUSED_TRIES = 15/REFUSED_TRIES = 14/
+s/REFUSED_NOTHING_FITS = 16/REFUSED_NOTHING_FITS = 99/
+s/at least one column count/at least two column counts/
+s/fit the matrix and the budget/fit the matrix/
+s/at least one column count has to be tried/no time cost from 1, rows and columns fit the matrix and the budget/
+/ lyra2_choose(/,/;/s/ size_t salt_len,//
+/ lyra2_choose(/,/;/s/ size_t rounds,//
+/ lyra2_choose(/,/;/s/ size_t tries,//
+/ lyra2_choose(/,/;/s/size_t rounds,/size_t rounds, size_t rotation,/
+/ lyra2_choose(/,/;/{ s/size_t tries,/size_t *tries,/; s/values[[].*[]]/values/ }
+/ lyra2_choose(/,/;/s/size_t values/uint32_t values/
+/ lyra2_choose(/,/;/s/size_t key_len/uint16_t key_len/
+/ lyra2_choose(/,/;/s/size_t password_len/uint32_t password_len/
+/ lyra2_choose(/,/;/s/size_t salt_len/uint8_t salt_len/
+/ lyra2_choose(/,/;/s/size_t matrix_words/uint32_t matrix_words/
+/ lyra2_choose(/,/;/s/uint64_t budget/uint32_t budget/
+/ lyra2_choose(/,/;/s/size_t rounds/uint8_t rounds/
+/ lyra2_choose(/,/;/s/size_t tries/uint8_t tries/
+/ lyra2_choose(/,/;/s/size_t tries/uint32_t tries/
+s/LYRA2_ANSWER uint32_t lyra2_choose/uint32_t lyra2_choose/
+s/__attribute__((warn_unused_result))//
 END
 
 # ---- wrong vectors: the first accepted line of an operation with one field spoilt
