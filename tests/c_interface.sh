@@ -202,15 +202,16 @@ is_found() { # FAULT PROGRAM..
     local program
     for program in "${@:2}"; do
         build_faulty "$1" $program
-        "$work/faulty" "$work/settings" >"$work/log" 2>&1 || { grep -q "^FAILED: " "$work/log"; return; }
+        "$work/faulty" "$work/small" >"$work/log" 2>&1 || { grep -q "^FAILED: " "$work/log"; return; }
     done
     return 1
 }
-# Where all operations take one mixer for the other they agree with one another, and the vectors alone tell.
-grep -E ' op=(derive|derive_recorded|check) .* rho=.* matrix_words=[0-9]{1,3} ' vectors/lyra2.txt >"$work/settings"
-for program in limits refusals records vectors lines; do
+# Where all operations take one mixer for the other they agree with one another, and the vectors alone tell. The lines of
+# choices are for the library without a fault, which makes them by itself.
+grep -E ' op=choose | op=(derive|derive_recorded|check) .* rho=.* matrix_words=[0-9]{1,3} ' vectors/lyra2.txt >"$work/small"
+for program in limits refusals records vectors lines choosing triples; do
     build_faulty 0 $program
-    "$work/faulty" "$work/settings" >"$work/log" 2>&1 || { cat "$work/log"; echo 'the wrapped library without a fault fails'; exit 1; }
+    "$work/faulty" "$work/small" >"$work/log" 2>&1 || { cat "$work/log"; echo 'the wrapped library without a fault fails'; exit 1; }
 done
 found=0
 # From 200 on in the settings of the plain derivation, the recorded one, the check, the cost question, and all of them; from
@@ -223,6 +224,113 @@ for fault in {101..128} {131..142}; do
     is_found "$fault" lines || { echo "fault $fault is not found"; exit 1; }
     found=$((found + 1))
 done
+
+# Those of choices, and what is said of each. The searches know the rule by themselves and find what is wrong in it, but for
+# cut numbers that they do not ask about.
+while read -r fault words; do
+    is_found "$fault" choosing || { echo "fault $fault is not found"; exit 1; }
+    grep -q "^FAILED: $words" "$work/log" || { cat "$work/log"; echo "fault $fault is found for another reason"; exit 1; }
+    case $fault in
+    5* | 613 | 617 | 640) ;;
+    *) is_found "$fault" triples || { echo "fault $fault is not found by searching"; exit 1; } ;;
+    esac
+    found=$((found + 1))
+done <<'END'
+501 values: place 0 was not written
+502 values: place 0 was not written
+503 values: place 1 was not written
+504 values: place 2 was not written
+505 values: place 3 was not written
+506 choose, full calls: R is 1, where 3 is due
+507 choose, full calls: R is 1, where 3 is due
+508 choose, full calls: C is 0, where 1 is due
+509 choose, full calls: R is 1, where 3 is due
+510 values: changed about byte 32,
+511 values: changed about byte -8,
+512 choose, full calls: R is [0-9]*, where 3 is due
+513 values: byte 0 is .., where 0 is due
+514 values: byte 0 is .., where 0 is due
+515 values: byte 24 is .., where 0 is due
+516 values: byte 24 is .., where 0 is due
+521 choose, full calls: the answer is 15, where 16 is due
+522 choose, two refusals: the answer is 16, where 15 is due
+523 choose, two refusals: the answer is 15, where 13 is due
+524 choose, two refusals: the answer is 16, where 13 is due
+525 choose, two refusals: the answer is 13, where 1 is due
+526 choose, two refusals: the answer is 15, where 1 is due
+527 choose, two refusals: the answer is 16, where 1 is due
+528 choose, one refusal: the answer is 0, where 15 is due
+529 choose, other columns passed over: the answer is 15, where 0 is due
+530 choose, words of the matrix: the answer is 7, where 16 is due
+531 choose, one refusal: the answer is 3, where 10 is due
+532 choose, one refusal: the answer is 0, where 1 is due: key 0,
+533 choose, one refusal: the answer is 0, where 1 is due: key 1025,
+534 choose, one refusal: the answer is 0, where 2 is due: key 32, password 1025,
+535 choose, one refusal: the answer is 0, where 3 is due: key 32, password 31, salt 7,
+536 choose, one refusal: the answer is 0, where 10 is due: key 32, password 31, salt 65,
+537 choose, one refusal: the answer is 0, where 13 is due: .* rounds 0,
+538 choose, one refusal: the answer is 0, where 13 is due: .* rounds 13,
+539 choose, T inside the budget: the answer is 13, where 0 is due
+551 choose, full calls: the answer is 16, where 0 is due
+552 choose, full calls: the answer is 3, where 0 is due
+553 choose, full calls: the answer is 16, where 0 is due
+554 choose, T inside the budget: T is 5, where 2 is due
+555 choose, a number at its limit: the answer is 0, where 1 is due: key 4294967297,
+556 choose, a number at its limit: the answer is 0, where 13 is due: .* rounds 4294967297,
+601 choose, full calls: T is 5, where 1 is due: key 1,
+602 choose, full calls: T is 5, where 1 is due: key 1,
+603 choose, full calls: T is 5, where 1 is due: key 1,
+604 choose, full calls: T is 5, where 1 is due: key 32, password 0, salt 40,
+605 choose, full calls: T is 5, where 1 is due: key 32, password 0, salt 40,
+606 choose, full calls: T is 5, where 1 is due: key 32, password 0, salt 40,
+607 choose, full calls: T is 8, where 1 is due: key 1,
+608 choose, full calls: T is 8, where 1 is due: key 1,
+609 choose, full calls: the answer is 16, where 0 is due: key 96,
+611 choose, full calls: the answer is 16, where 0 is due
+612 choose, words of the matrix: R is 4, where 3 is due
+613 choose, a bit of the matrix: the answer is 16, where 0 is due: .* matrix 4294967296,
+614 choose, rounds of the budget: the answer is 16, where 0 is due
+615 choose, T inside the budget: R is 4, where 3 is due
+616 choose, a bit of the budget: the answer is 16, where 0 is due: .* budget 4294967296,
+617 choose, words of the matrix: the answer is 16, where 0 is due
+618 choose, full calls: the answer is 0, where 16 is due
+619 choose, full calls: the answer is 0, where 16 is due
+620 choose, rounds of the budget: R is 6, where 3 is due
+621 choose, full calls: the answer is 0, where 16 is due
+622 choose, full calls: the answer is 0, where 16 is due
+623 choose, full calls above the budget: the answer is 0, where 16 is due
+624 choose, the greatest choice: the shortfall is 1537228672804934997, where 0 is due
+625 choose, rounds of the budget: the shortfall is 4161536, where 4177920 is due
+631 choose, rounds of the budget: R is 16385, where 16384 is due
+632 choose, rounds of the budget: R is 16383, where 16384 is due
+633 choose, full calls: the answer is 0, where 16 is due
+634 choose, full calls: the answer is 16, where 0 is due
+635 choose, equal cells: R is 64, where 16384 is due
+636 choose, more cells after fewer: R is 16384, where 3277 is due
+637 choose, the last column count: R is 16384, where 16321 is due
+638 choose, more tries than columns: R is 16257, where 16384 is due
+639 choose, equal cells: R is 0, where 16384 is due
+640 choose, a bit of the tries: R is 0, where 16384 is due: .* tries 4294967296
+641 choose, more cells after fewer: R is 16384, where 3277 is due
+642 choose, more cells after fewer: R is 16384, where 3277 is due
+643 choose, more cells after fewer: R is 16384, where 3277 is due
+644 choose, more cells after fewer: R is 16384, where 3277 is due
+651 choose, rounds of the budget: the shortfall is 0, where 1 is due
+652 choose, rounds of the budget: the shortfall is 12, where 1 is due
+653 choose, rounds of the budget: the shortfall is 4177664, where 4177919 is due
+654 choose, rounds of the budget: the shortfall is 1537228672809129298, where 0 is due
+655 choose, full calls: the shortfall is 4194301, where 0 is due
+656 choose, full calls: T is 2, where 1 is due
+657 choose, full calls: T is 0, where 1 is due
+658 choose, T inside the budget: T is 1, where 2 is due
+659 choose, T inside the budget: T is 256, where 255 is due
+660 choose, T inside the budget: T is 254, where 255 is due
+661 choose, T inside the budget: T is 0, where 255 is due
+662 choose, rounds of the budget: T is 1, where 255 is due
+663 choose, T inside the budget: T is 5, where 2 is due
+664 choose, full calls: T is 9, where 1 is due
+665 choose, a bit of the budget: T is 0, where 255 is due
+END
 
 # Those that leave something on the stack, and what is said of each. No linker looks up what they call while they run, since
 # it would leave more there.

@@ -33,6 +33,20 @@ size_t spoil_room(size_t time, size_t rows, size_t columns, size_t record_words)
 /* Changes the record of an accepted call. */
 void spoil_record(size_t time, size_t rows, size_t columns, uint64_t *record, size_t record_words);
 
+/* What a choice of costs is made from, as its call is given it. */
+struct choice_asked {
+    size_t key, password, salt, matrix;
+    uint64_t budget;
+    size_t rounds, tries;
+};
+
+/* The cells that matrix and budget leave, and the fewest with which the choice is accepted. */
+size_t cell_limit(const struct choice_asked *n);
+size_t least_cells(void);
+
+/* The values of an accepted choice, in their order. */
+void choose_anew(const struct choice_asked *n, size_t *values);
+
 /* Leaves up to eight bytes on the stack, where no word starts, as a function does that does not wipe its own place. */
 void leave(const uint8_t *bytes, size_t count);
 
