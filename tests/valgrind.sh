@@ -13,26 +13,31 @@ memcheck() { # PROGRAM ARGUMENT..
 }
 
 flags+=(-g)
-compile memcheck memcheck_lines watched refusals records lines vectors fields calls line_calls choice_calls lent
+compile memcheck memcheck_lines memcheck_choices watched refusals records lines choosing vectors fields calls line_calls choice_calls lent
 cc "$work"/{memcheck,watched,calls,lent}.o "$library" -o "$work/memcheck"
 cc "$work"/{memcheck_lines,watched,calls,lent}.o "$library" -o "$work/memcheck_lines"
+cc "$work"/{memcheck_choices,watched,calls,lent}.o "$library" -o "$work/memcheck_choices"
 cc "$work"/{refusals,calls,lent}.o "$library" -o "$work/refusals"
 cc "$work"/{records,calls,lent}.o "$library" -o "$work/records"
 cc "$work"/{lines,calls,line_calls,lent}.o "$library" -o "$work/lines"
+cc "$work"/{choosing,calls,choice_calls,lent}.o "$library" -o "$work/choosing"
 cc "$work"/{vectors,fields,calls,line_calls,choice_calls,lent}.o "$library" -o "$work/vectors"
 # A pipe would hide the status.
 memcheck "$work/memcheck" >"$work/ran"
 memcheck "$work/memcheck_lines" >>"$work/ran"
+memcheck "$work/memcheck_choices" >>"$work/ran"
 cat "$work/ran"
 memcheck "$work/refusals"
 memcheck "$work/records"
 memcheck "$work/lines"
+memcheck "$work/choosing"
 cc "${flags[@]}" examples/derive_and_check.c "$library" -o "$work/example"
 same 'the example' "$(cat examples/derive_and_check.out)" "$(printf 'correct horse' | memcheck "$work/example" 'salt of 16 bytes' 1 256 64 32)"
 
-# Every third of the vectors whose matrix has fewer than 1,000 words, since all of them would take minutes, and the lines.
-grep -E ' op=(cost|walk) | matrix_words=[0-9]{1,3} ' vectors/lyra2.txt | awk 'NR % 3 == 0' >"$work/small"
-grep -E ' op=line_(read|write) ' vectors/lyra2.txt >>"$work/small"
+# Every third of the vectors whose matrix has fewer than 1,000 words, since all of them would take minutes, and all lines and
+# choices.
+grep -v ' op=choose ' vectors/lyra2.txt | grep -E ' op=(cost|walk) | matrix_words=[0-9]{1,3} ' | awk 'NR % 3 == 0' >"$work/small"
+grep -E ' op=(choose|line_read|line_write) ' vectors/lyra2.txt >>"$work/small"
 memcheck "$work/vectors" "$work/small"
 
 # ---- faulty libraries, and what is said of each
@@ -41,13 +46,16 @@ report() { # FAULT PROGRAM
     cc "$wrapped" "$work"/{"$2",watched,calls,lent}.o "${faulty[@]}" "$library" -o "$work/faulty" || exit 1
     memcheck "$work/faulty" 2>&1 && echo 'nothing is found'
 }
-for program in memcheck memcheck_lines; do
+for program in memcheck memcheck_lines memcheck_choices; do
     same 'the wrapped library without a fault' 'nothing is found' "$(report 0 $program | tail -n 1)"
 done
 found=0
 while read -r fault words; do
-    program=memcheck
-    [ $((fault / 100)) -ne 1 ] || program=memcheck_lines
+    case $((fault / 100)) in
+    1) program=memcheck_lines ;;
+    5) program=memcheck_choices ;;
+    *) program=memcheck ;;
+    esac
     report "$fault" $program >"$work/log" || true
     grep -q "$words" "$work/log" || { cat "$work/log"; echo "fault $fault is not found"; exit 1; }
     found=$((found + 1))
@@ -96,6 +104,16 @@ done <<'END'
 461 Conditional jump or move depends on uninitialised value
 462 numbers: depends on what the memory held
 463 Invalid read of size 8
+501 values: depends on what the memory held
+505 values: depends on what the memory held
+510 Invalid write of size 8
+511 Invalid write of size 8
+512 values: depends on what the memory held
+513 values: depends on what the memory held
+515 values: depends on what the memory held
+561 values: depends on what the memory held
+562 Conditional jump or move depends on uninitialised value
+563 Invalid read of size 8
 END
 calls=$(awk '{ sum += $(NF - 1) } END { print sum }' "$work/ran")
 echo "valgrind: $calls calls without an error, $found faulty libraries were found"
