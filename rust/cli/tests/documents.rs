@@ -6,7 +6,8 @@ use common::end_state::{summed, EndState};
 use common::line::{encode, Line};
 use common::{hex, lyra2, words, TemporaryFile};
 use lyra2_reference::refusal::{
-    COST_CHECKS, LINE_READ_CHECKS, LINE_WRITE_CHECKS, PLAIN_CHECKS, RECORDED_CHECKS, WALK_CHECKS,
+    CHOICE_CHECKS, COST_CHECKS, LINE_READ_CHECKS, LINE_WRITE_CHECKS, PLAIN_CHECKS, RECORDED_CHECKS,
+    WALK_CHECKS,
 };
 use lyra2_reference::{derive, Inputs, Refusal, Settings};
 use std::collections::BTreeMap;
@@ -62,9 +63,6 @@ fn orders(document: &str, start: &str, between: &str) -> BTreeMap<String, String
     found
 }
 
-/// The order of the checks of a choice of costs.
-const CHOICE_CHECKS: &str = "1, 2, 3, 10, 13, 15, 16";
-
 #[test]
 fn the_orders_of_the_checks_are_the_second_programs() {
     let due: BTreeMap<_, _> = [
@@ -72,16 +70,15 @@ fn the_orders_of_the_checks_are_the_second_programs() {
         ("derive", PLAIN_CHECKS),
         ("check", PLAIN_CHECKS),
         ("cost", COST_CHECKS),
+        ("choose", CHOICE_CHECKS),
         ("walk", WALK_CHECKS),
         ("line_read", LINE_READ_CHECKS),
         ("line_write", LINE_WRITE_CHECKS),
     ]
     .map(|(name, checks)| (name.to_string(), listed(checks)))
     .into();
-    let mut with_choice = due.clone();
-    with_choice.insert("choose".to_string(), CHOICE_CHECKS.to_string());
     let header = document("include/lyra2.h");
-    assert_eq!(orders(&header, " *     ", "  "), with_choice);
+    assert_eq!(orders(&header, " *     ", "  "), due);
     let page = document("vectors/README.md");
     assert_eq!(orders(&page, "| `", " | "), due);
     let code =
@@ -95,14 +92,13 @@ fn the_orders_of_the_checks_are_the_second_programs() {
         RECORDED_CHECKS,
         PLAIN_CHECKS,
         COST_CHECKS,
+        CHOICE_CHECKS,
         LINE_READ_CHECKS,
         LINE_WRITE_CHECKS,
     ] {
         let sentence = format!("in the order of the checks: {}.", listed(checks));
         assert!(comments.contains(&sentence), "{sentence}");
     }
-    let sentence = format!("in the order of the checks: {CHOICE_CHECKS}.");
-    assert!(comments.contains(&sentence), "{sentence}");
 }
 
 /// The lines of a document that show bytes: an offset, a colon, and up to sixteen bytes.

@@ -8,7 +8,7 @@ mod common;
 use common::{settings, size};
 use lyra2::{Lengths, Parameters};
 use lyra2_reference::vectors::{read, run, Case, Coverage, Question, Subject};
-use lyra2_reference::{Checked, Counts, Inputs, LineParts, LineValues, Recorded, Refusal};
+use lyra2_reference::{Checked, Choice, Counts, Inputs, LineParts, LineValues, Recorded, Refusal};
 
 const FILE: &str = concat!(env!("CARGO_MANIFEST_DIR"), "/../../vectors/lyra2.txt");
 /// A matrix of more words belongs to the lines that lend 400 MB, which derivation-link's tests run.
@@ -25,6 +25,14 @@ fn counts(counts: lyra2::Counts) -> Counts {
         full: counts.full,
         reduced: counts.reduced,
         rounds: counts.rounds,
+    }
+}
+
+fn lengths([key, password, salt]: [u64; 3]) -> Lengths {
+    Lengths {
+        key: size(key),
+        password: size(password),
+        salt: size(salt),
     }
 }
 
@@ -72,11 +80,7 @@ impl Subject for Safe {
     }
 
     fn cost(&self, given: &lyra2_reference::Parameters, rho: u64) -> Result<Counts, Refusal> {
-        let lengths = Lengths {
-            key: size(given.key_len),
-            password: size(given.password_len),
-            salt: size(given.salt_len),
-        };
+        let lengths = lengths([given.key_len, given.password_len, given.salt_len]);
         let parameters = Parameters {
             time: size(given.t),
             rows: size(given.r),
@@ -85,6 +89,23 @@ impl Subject for Safe {
         lyra2::cost(lengths, parameters, size(rho))
             .map(counts)
             .map_err(refusal)
+    }
+
+    fn choose(&self, given: &lyra2_reference::Limits) -> Option<Result<Choice, Refusal>> {
+        let lengths = lengths([given.key_len, given.password_len, given.salt_len]);
+        let limits = lyra2::Limits {
+            words: size(given.matrix_words),
+            budget: given.budget,
+            rounds: size(given.rho),
+            tries: size(given.tries),
+        };
+        let choice = |choice: lyra2::Choice| Choice {
+            t: choice.parameters.time as u64,
+            r: choice.parameters.rows as u64,
+            c: choice.parameters.columns as u64,
+            shortfall: choice.shortfall as u64,
+        };
+        Some(lyra2::choose(lengths, limits).map(choice).map_err(refusal))
     }
 
     fn walk(&self, r: u64, row0: u64) -> Result<u64, Refusal> {
@@ -140,8 +161,6 @@ fn is_wanted(case: &Case) -> bool {
 fn every_line_but_the_largest_matrices_and_the_walk_program() {
     let file = std::fs::read(FILE).expect("the repository has its vectors file");
     let mut lines = read(&file).expect("the vectors file can be read");
-    // This crate chooses no costs yet.
-    lines.retain(|(_, case)| !matches!(case.question, Question::Choose { .. }));
     let all = lines.len();
     lines.retain(|(_, case)| is_wanted(case));
     for (line, case) in &lines {
