@@ -9,7 +9,6 @@ use crate::failure::Failure;
 use crate::memory;
 use crate::timing::{derivation, median, TURNS};
 use lyra2::{Memory, Parameters, Settings};
-use std::mem::forget;
 use std::ops::RangeInclusive;
 use std::time::{Duration, Instant};
 
@@ -18,7 +17,7 @@ const FIRST_BUDGET: u64 = 100_000;
 /// How much longer than the one before a derivation is expected to take at most, since a short one tells little of a long one.
 const GROWTH: f64 = 8.0;
 /// The seconds that a derivation is expected to take at most.
-const LONGEST: f64 = 0.15;
+const LONGEST: f64 = 0.1;
 /// Which parts of the time that is aimed at are near enough.
 const NEAR: RangeInclusive<f64> = 0.7..=1.3;
 /// After this no other derivation is tried, so that all take about a second at most.
@@ -59,11 +58,10 @@ impl Speed {
 
     /// Requires that the matrix of T, R and C can be had, where a smaller one was timed.
     pub fn require_memory(&self, parameters: Parameters) -> Result<(), Failure> {
-        if matrix_bytes(parameters) > self.matrix_bytes {
-            // Dropped, it would be wiped, which fetches every page of a matrix that nothing was written to.
-            forget(memory::matrix(parameters)?);
+        match matrix_bytes(parameters) > self.matrix_bytes {
+            true => memory::require_matrix(parameters),
+            false => Ok(()),
         }
-        Ok(())
     }
 }
 

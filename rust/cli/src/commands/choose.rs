@@ -32,7 +32,7 @@ const WORD: u64 = 8;
          counts are tried, that none that fit have more cells at all. The last line has the options for `lyra2 derive`.",
         "With --seconds the rounds come from derivations that are timed on the spot, which takes about a second. They have the \
          given rounds of a reduced call, the given mixer and the shape that would be chosen, first for some milliseconds and \
-         in the end for the given seconds, or for 0.15 where more are given. Each is timed three times with its visits and \
+         in the end for the given seconds, or for 0.1 where more are given. Each is timed three times with its visits and \
          without, and the medians count. \
          Allowed are then the most rounds whose choice is expected to take no longer. All that a derivation needs is counted, \
          also to set the matrix aside and to wipe it and give it back: who keeps a matrix for many derivations waits less. The \
