@@ -1,8 +1,9 @@
 //! The C interface of the proved library, called with slices.
 //!
 //! Each function returns 0 or the number of a refusal and leaves the places for the answer to the caller, who
-//! can so see what a call does to them: after a refusal `same`, the counts, the state, `row1`, the values of a choice and of
-//! a line and a line's length are 0, and all other memory is what it was. [`record_pair`] alone refuses nothing and returns its answer.
+//! can so see what a call does to them: after a refusal `same`, the counts, the state, `row1`, the values of a
+//! choice and of a line and a line's length are 0, and all other memory is what it was. [`record_pair`] alone
+//! refuses nothing and returns its answer.
 //! The crate `lyra2` turns the numbers into results.
 //!
 //! All functions here are safe to call. The proved functions ask nothing of their arguments, read and write
@@ -82,8 +83,8 @@ pub struct Limits {
     pub tries: usize,
 }
 
-/// The numbers of a choice of costs: T, R, C and the shortfall, which is how many cells more than R·C any others that fit
-/// can have at most.
+/// The numbers of a choice of costs: T, R, C and the shortfall, which is how many cells more than R·C any others
+/// that fit can have at most.
 pub type ChoiceValues = [usize; 4];
 
 /// The plain derivation: fills the key, and leaves zeros in the used matrix.
