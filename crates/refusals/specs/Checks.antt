@@ -127,7 +127,8 @@ formCheck = holds 11
 abbrev pub outputCheck : List Bound → Check
 outputCheck bounds = record { number = 12; bounds = bounds }
 
--- how many column counts may be tried, and how many cells a matrix may have at most, where costs are chosen (request 109)
+-- where costs are chosen (request 109): how many column counts may be tried, and how many cells a matrix may have at most, which one column of
+-- the fewest rows has to fit
 abbrev pub triesCheck : ℕ → Check
 triesCheck = atLeast 15 1
 
