@@ -5,12 +5,14 @@ use mathlib.Core.Bool.{Bool, true, false, cond, not, and-eq-true-iff}
 use Prim.Native.Nat.{ℕ, suc, _+_}
 use mathlib.Core.List.{List, [], _∷_, _++_}
 use lib.Dec.{eqb}
-use lib.ListN.{length, take, drop, take-append-drop}
+use lib.ListN.{length, take, drop}
 use lib.Seq.{drop-drop, take-append-seam, drop-append-seam}
 use borrow.Author.Tests.{eq-eqb, not-true}
 use Rattle.lists.specs.Every.{every, sameBytes}
-use Rattle.lists.proofs.EveryLaws.{same-of-equal, equal-of-same}
-use Rattle.line_form.specs.Line.{until, endAt, standsAt}
+use Rattle.lists.proofs.EveryLaws.{same-of-equal}
+use Rattle.text.specs.Text.{standsAt}
+use Rattle.text.proofs.Standing.{stands}
+use Rattle.line_form.specs.Line.{until, endAt}
 
 -- no byte is c
 abbrev pub lacks : ℕ → List ℕ → Bool
@@ -24,11 +26,6 @@ until-splits c [] = refl
 until-splits c (b ∷ l) =
     elim (eqb b c) as (λ t. b ∷ l ≡ cond t [] (b ∷ until c l) ++ drop (length (cond t [] (b ∷ until c l))) (b ∷ l))
     [ true ↦ refl | false ↦ ap (λ (r : List ℕ). b ∷ r) (until-splits c l) ]
-
-pub stands : (l : List ℕ) (at : ℕ) (mark : List ℕ) → standsAt l at mark ≡ true → drop at l ≡ mark ++ drop (at + length mark) l
-stands l at mark e =
-    sym (take-append-drop (length mark) (drop at l))
-    ∙ ap₂ (λ (a b : List ℕ). a ++ b) (equal-of-same (take (length mark) (drop at l)) mark e) (drop-drop (length mark) at l)
 
 pub cut : (c : ℕ) (l : List ℕ) (a : ℕ) (mark : List ℕ) → standsAt l (endAt c l a) mark ≡ true
     → drop a l ≡ until c (drop a l) ++ (mark ++ drop (endAt c l a + length mark) l)

@@ -16,8 +16,10 @@ use Rattle.base64.specs.Base64.{encode, decode, isText}
 use Rattle.base64.proofs.Elements.{decode-bytes}
 use Rattle.base64.proofs.Texts.{encode-text, text-no-dollar}
 use Rattle.base64.proofs.Inverse.{decode-encode, encode-decode}
-use Rattle.line_form.specs.Line.{Values, Bytes, startMark, rowsMark, columnsMark, textMark, joined, lineOf, timeEnd, rowsEnd, columnsEnd, saltEnd, timeText, rowsText, columnsText, saltText, keyText, standsAt, isMarked, isLine, valuesOf}
-use Rattle.line_form.proofs.Cuts.{lacks, stands, cut, cut-of}
+use Rattle.text.specs.Text.{standsAt}
+use Rattle.text.proofs.Standing.{stands}
+use Rattle.line_form.specs.Line.{Values, Bytes, startMark, rowsMark, columnsMark, textMark, joined, lineOf, timeEnd, rowsEnd, columnsEnd, saltEnd, timeText, rowsText, columnsText, saltText, keyText, isMarked, isLine, valuesOf}
+use Rattle.line_form.proofs.Cuts.{lacks, cut, cut-of}
 
 -- ---- the parts of the form
 

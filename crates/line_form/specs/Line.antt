@@ -3,8 +3,8 @@ use Prim.Native.Nat.{ℕ, _+_, _<_}
 use mathlib.Core.Bool.{Bool, cond, _&&_}
 use mathlib.Core.List.{List, [], _∷_, _++_}
 use lib.Dec.{eqb}
-use lib.ListN.{length, getD, take, drop}
-use Rattle.lists.specs.Every.{sameBytes}
+use lib.ListN.{length, getD, drop}
+use Rattle.text.specs.Text.{standsAt}
 use Rattle.settings.specs.declared.StoredParameters.{StoredParameters}
 use Rattle.decimal.specs.Decimal.{decimal, isNumber, numberOf}
 use Rattle.base64.specs.Base64.{encodedLength, encode, decode, isText}
@@ -85,10 +85,6 @@ saltText line = until 36 (drop (columnsEnd line + 1) line)
 
 abbrev pub keyText : List ℕ → List ℕ
 keyText line = drop (saltEnd line + 1) line
-
--- a mark stands at a place
-abbrev pub standsAt : List ℕ → ℕ → List ℕ → Bool
-standsAt line at mark = sameBytes (take (length mark) (drop at line)) mark
 
 -- ---- the form
 

@@ -12,7 +12,9 @@ use lib.Seq.{drop-cons}
 use borrow.Author.Tests.{eq-eqb, ne-eqb}
 use Rattle.lists.specs.Every.{sameBytes}
 use Rattle.lists.proofs.EveryLaws.{equal-of-same}
-use Rattle.line_form.specs.Line.{startMark, rowsMark, columnsMark, textMark, until, endAt, timeEnd, rowsEnd, columnsEnd, standsAt, isMarked}
+use Rattle.text.specs.Text.{standsAt}
+use Rattle.text.proofs.Standing.{stands-fits}
+use Rattle.line_form.specs.Line.{startMark, rowsMark, columnsMark, textMark, until, endAt, timeEnd, rowsEnd, columnsEnd, isMarked}
 use Rattle.line_form.proofs.Inverse.{both}
 use Rattle.line_marks.specs.declared.End.{End}
 use Rattle.line_marks.specs.Ends.{NextEnd, EndsOf}
@@ -49,48 +51,6 @@ module _ {c : ℕ} {l : List ℕ} {a i : ℕ} (q : Sought c l a i) where
   sought-end h =
       let empty : length (until c (drop i l)) ≡ 0 = ap (λ (d : List ℕ). length (until c d)) (drop-of-length-le l {i = i} h) in
       omega (arith, q .so-far)
-
--- ---- a mark
-
--- the first i bytes of the mark stand from place a on
-pub record Standing (l : List ℕ) (a : ℕ) (mark : List ℕ) (i : ℕ) : Type 0 where
-  pub fits : a + length mark ≤ length l
-  pub inside : i ≤ length mark
-  pub others : standsAt l (a + i) (drop i mark) ≡ standsAt l a mark
-
-pub standing-none : {l : List ℕ} {a : ℕ} {mark : List ℕ} → a + length mark ≤ length l → Standing l a mark 0
-standing-none {l} {a} {mark} h = record { fits = h; inside = omega arith; others = ap (λ (n : ℕ). standsAt l n mark) (add-zero a) }
-
-module _ {l : List ℕ} {a : ℕ} {mark : List ℕ} {i : ℕ} (q : Standing l a mark i) where
-  stands-here : i < length mark → {b : Bool} → eqb (getD l (a + i) 0) (getD mark i 0) ≡ b
-      → (b && standsAt l (a + suc i) (drop (suc i) mark)) ≡ standsAt l a mark
-  unfolding sameBytes
-  stands-here h {b} e =
-      ap₂ (λ (s : Bool) (n : ℕ). s && standsAt l n (drop (suc i) mark)) (sym e) (add-suc a i)
-      ∙ sym (ap₂ (λ (d m : List ℕ). sameBytes (take (length m) d) m) (drop-cons l (a + i) 0 (omega (arith, q .fits))) (drop-cons mark i 0 h)) ∙ q .others
-
-  pub standing-more : i < length mark → getD l (a + i) 0 ≡ getD mark i 0 → Standing l a mark (i + 1)
-  standing-more h e = record { fits = q .fits; inside = omega arith; others = rw add-one (stands-here h (eq-eqb (getD l (a + i) 0) (getD mark i 0) e)) }
-
-  pub standing-fails : i < length mark → (getD l (a + i) 0 ≡ getD mark i 0 → ⊥) → false ≡ standsAt l a mark
-  standing-fails h e = stands-here h (ne-eqb (getD l (a + i) 0) (getD mark i 0) e)
-
-  pub standing-end : length mark ≤ i → true ≡ standsAt l a mark
-  unfolding sameBytes
-  standing-end h = sym (ap (standsAt l (a + i)) (drop-of-length-le mark {i = i} h)) ∙ q .others
-
--- a mark that stands is within the line
-pub stands-fits : (l : List ℕ) (a : ℕ) (mark : List ℕ) → a ≤ length l → standsAt l a mark ≡ true → a + length mark ≤ length l
-stands-fits l a mark h e =
-    let long = ap length (equal-of-same (take (length mark) (drop a l)) mark e) in
-    omega (arith, length-take (length mark) (drop a l), length-drop a l)
-
-pub too-short : (l : List ℕ) (a : ℕ) (mark : List ℕ) → a ≤ length l → length l - a < length mark → false ≡ standsAt l a mark
-too-short l a mark h short = go (standsAt l a mark) refl
-  where
-    go : (b : Bool) → standsAt l a mark ≡ b → false ≡ b
-    go true e = absurd (omega (arith, stands-fits l a mark h e))
-    go false e = refl
 
 -- ---- text after text
 

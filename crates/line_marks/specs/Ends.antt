@@ -4,7 +4,8 @@ use Prim.Native.Nat.{ℕ, _+_, _≤_}
 use mathlib.Core.Bool.{true, false}
 use mathlib.Core.List.{List}
 use lib.ListN.{length}
-use Rattle.line_form.specs.Line.{endAt, timeEnd, rowsEnd, columnsEnd, saltEnd, standsAt, isMarked}
+use Rattle.text.specs.Text.{standsAt}
+use Rattle.line_form.specs.Line.{endAt, timeEnd, rowsEnd, columnsEnd, saltEnd, isMarked}
 use Rattle.line_marks.specs.declared.End.{End}
 use Rattle.line_marks.specs.declared.Ends.{Ends}
 

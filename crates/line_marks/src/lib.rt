@@ -1,8 +1,10 @@
 // The marks of a login line, and where its texts end.
+use text::stands_at;
 ghost use mathlib.Core.Path.{_≡_};
 ghost use Prim.Native.Nat.{_+_, _≤_};
 ghost use lib.ListN.{length};
-ghost use Rattle.line_form.specs.Line.{startMark, endAt, standsAt};
+ghost use Rattle.text.specs.Text.{standsAt};
+ghost use Rattle.line_form.specs.Line.{startMark, endAt};
 ghost use Rattle.line_marks.specs.Ends.{Inside, NextEnd, EndsOf};
 
 // The bytes of `$lyra2$t=`.
@@ -28,24 +30,6 @@ fn end_at(line: &[u8], at: usize, byte: u8) -> usize
         i += 1;
     }
     i
-}
-
-// Whether a mark stands at a place.
-fn stands_at(line: &[u8], at: usize, mark: &[u8]) -> bool
-    requires { ⌜ at ≤ length (now line) ⌝ }
-    ensures { λ r. ⌜ r ≡ standsAt (now (line .entry)) at (now (mark .entry)) ⌝ }
-{
-    if line.len() - at < mark.len() {
-        return false;
-    }
-    let mut i = 0;
-    while i < mark.len() {
-        if line[at + i] != mark[i] {
-            return false;
-        }
-        i += 1;
-    }
-    true
 }
 
 // The end of a text, and whether the next mark stands there.

@@ -93,45 +93,52 @@ take-bytes (suc n) (b ∷ bs) h (suc i) = take-bytes n bs (λ j. h (suc j)) i
 pub drop-bytes : (n : ℕ) (l : List ℕ) → AllBytes l → AllBytes (drop n l)
 drop-bytes n l h i = subst (λ (x : ℕ). x < 256) (sym (getD-drop n l i 0)) (h (n + i))
 
--- ---- a word at a place, read from its highest byte down
+-- at most n bytes
+pub value-most : (n : ℕ) (l : List ℕ) → AllBytes l → leValue (take n l) < 2 ^ (8 * n)
+value-most n l h =
+    lt-of-lt-of-le (value-lt (take n l) (take-bytes n l h)) (pow-mono {j = 8 * n} (simp length-take (omega arith)))
 
--- bytes i to 7 are read, and stand for v
-pub record Loaded (bytes : List ℕ) (at i v : ℕ) : Type 0 where
+-- ---- a number of n bytes at a place, read from its highest byte down
+
+-- bytes i to n - 1 are read, and stand for v
+pub record Loaded (n : ℕ) (bytes : List ℕ) (at i v : ℕ) : Type 0 where
   pub all : AllBytes bytes
-  pub fits : at + 8 ≤ length bytes
-  pub within : i ≤ 8
-  pub so-far : v ≡ leValue (drop i (take 8 (drop at bytes)))
+  pub short : n ≤ 8
+  pub fits : at + n ≤ length bytes
+  pub within : i ≤ n
+  pub so-far : v ≡ leValue (drop i (take n (drop at bytes)))
 
-module _ {bytes : List ℕ} {at : ℕ} where
-  pub loaded-none : AllBytes bytes → at + 8 ≤ length bytes → Loaded bytes at 8 0
+module _ {n : ℕ} {bytes : List ℕ} {at : ℕ} where
+  pub loaded-none : AllBytes bytes → n ≤ 8 → at + n ≤ length bytes → Loaded n bytes at n 0
   unfolding leValue
-  loaded-none all fits =
-      let none = drop-of-length-le (take 8 (drop at bytes)) {i = 8} (simp length-take (omega arith)) in
-      record { all = all; fits = fits; within = omega arith; so-far = sym (ap leValue none) }
+  loaded-none all short fits =
+      let none = drop-of-length-le (take n (drop at bytes)) {i = n} (simp length-take (omega arith)) in
+      record { all = all; short = short; fits = fits; within = omega arith; so-far = sym (ap leValue none) }
 
   -- seven bytes at most leave room for one more
-  pub loaded-room : {i v : ℕ} → Loaded bytes at i v → 0 < i → v < 2 ^ 56
+  pub loaded-room : {i v : ℕ} → Loaded n bytes at i v → 0 < i → v < 2 ^ 56
   loaded-room {i} q pos =
       rw (q .so-far)
       (lt-of-lt-of-le
-      (value-lt _ (drop-bytes i (take 8 (drop at bytes)) (take-bytes 8 (drop at bytes) (drop-bytes at bytes (q .all)))))
-      (pow-mono {j = 56} (simp (length-drop, length-take) (omega arith))))
+      (value-lt _ (drop-bytes i (take n (drop at bytes)) (take-bytes n (drop at bytes) (drop-bytes at bytes (q .all)))))
+      (pow-mono {j = 56} (simp (length-drop, length-take) (omega (arith, q .short)))))
 
-  pub loaded-more : {i v k b : ℕ} → Loaded bytes at i v → suc k ≡ i → b ≡ getD bytes (at + k) 0 → Loaded bytes at k (v * 256 + b)
+  pub loaded-more : {i v k b : ℕ} → Loaded n bytes at i v → suc k ≡ i → b ≡ getD bytes (at + k) 0 → Loaded n bytes at k (v * 256 + b)
   unfolding leValue
   loaded-more {k = k} q e here =
-      let inside : k < length (take 8 (drop at bytes)) = simp (length-take, length-drop) (omega (arith, q .fits, q .within)) in
+      let inside : k < length (take n (drop at bytes)) = simp (length-take, length-drop) (omega (arith, q .fits, q .within)) in
       record {
         all = q .all;
+        short = q .short;
         fits = q .fits;
         within = omega (arith, q .within);
         so-far =
-            rw (drop-cons (take 8 (drop at bytes)) k 0 inside)
-            (ap₂ (λ (x y : ℕ). x * 256 + y) (q .so-far ∙ ap (λ (n : ℕ). leValue (drop n (take 8 (drop at bytes)))) (sym e))
-            (here ∙ sym (getD-take 8 (drop at bytes) k 0 (omega (arith, q .within)) ∙ getD-drop at bytes k 0)));
+            rw (drop-cons (take n (drop at bytes)) k 0 inside)
+            (ap₂ (λ (x y : ℕ). x * 256 + y) (q .so-far ∙ ap (λ (m : ℕ). leValue (drop m (take n (drop at bytes)))) (sym e))
+            (here ∙ sym (getD-take n (drop at bytes) k 0 (omega (arith, q .within)) ∙ getD-drop at bytes k 0)));
       }
 
-  pub loaded-end : {i v : ℕ} → Loaded bytes at i v → i ≡ 0 → v ≡ leValue (take 8 (drop at bytes))
+  pub loaded-end : {i v : ℕ} → Loaded n bytes at i v → i ≡ 0 → v ≡ leValue (take n (drop at bytes))
   loaded-end q e = rw e at (q .so-far)
 
 pub length-words : (n : ℕ) (bytes : List ℕ) → length (leWords n bytes) ≡ n

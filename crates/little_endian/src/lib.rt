@@ -11,13 +11,13 @@ pub fn widened(b: u8) -> u64
     b as u64
 }
 
-// The word at byte `at`.
-pub fn load_word(bytes: &[u8], at: usize) -> u64
-    requires { ⌜ at + 8 ≤ length (now bytes) ⌝ }
-    ensures { λ r. ⌜ r ≡ leValue (take 8 (drop at (now (bytes .entry)))) ⌝ }
+// The number that n bytes from byte `at` on stand for.
+pub fn load_number(bytes: &[u8], at: usize, n: usize) -> u64
+    requires { ⌜ (n ≤ 8) × (at + n ≤ length (now bytes)) ⌝ }
+    ensures { λ r. ⌜ r ≡ leValue (take n (drop at (now (bytes .entry)))) ⌝ }
 {
     let mut v: u64 = 0;
-    let mut i: usize = 8;
+    let mut i: usize = n;
     while 0 < i {
         i -= 1;
         v = v * 256 + widened(bytes[at + i]);
@@ -32,7 +32,7 @@ pub fn load_words(bytes: &[u8], words: &mut [u64])
 {
     let mut i = 0;
     while i < words.len() {
-        words[i] = load_word(bytes, 8 * i);
+        words[i] = load_number(bytes, 8 * i, 8);
         i += 1;
     }
 }

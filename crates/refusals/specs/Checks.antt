@@ -135,6 +135,17 @@ triesCheck = atLeast 15 1
 abbrev pub cellsCheck : ℕ → Check
 cellsCheck = atLeast 16 minRows
 
+-- a book of accounts (request 110): so many bytes are used of the lent ones, and they are a book; there is such an account; the book fits
+-- once it is changed
+abbrev pub bookCheck : ℕ → ℕ → Bool → Check
+bookCheck used room good = record { number = 17; bounds = used ≤? room ∷ 1 ≤? flag good ∷ [] }
+
+abbrev pub accountCheck : Bool → Check
+accountCheck = holds 18
+
+abbrev pub bookRoomCheck : ℕ → ℕ → Check
+bookRoomCheck = atLeast 19
+
 -- ---- the operations, each with its checks in their order
 
 -- the lengths, which come first

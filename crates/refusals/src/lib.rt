@@ -39,6 +39,12 @@ pub const TRY_COUNT: u32 = 15;
 
 pub const NOTHING_FITS: u32 = 16;
 
+pub const BOOK_FORM: u32 = 17;
+
+pub const NO_ACCOUNT: u32 = 18;
+
+pub const BOOK_LENGTH: u32 = 19;
+
 pub const MAX_KEY: usize = 1024;
 
 pub const MAX_PASSWORD: usize = 1024;

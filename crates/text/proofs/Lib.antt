@@ -1,2 +1,3 @@
 -- The laws of text in a buffer.
 pub mod Appending
+pub mod Standing

@@ -3,7 +3,7 @@ use mathlib.Core.Path.{refl, sym, _∙_}
 use native.Mathlib.Omega.{arith}
 use denote.Ref.{now}
 use Rattle.line_form.specs.Line.{startMark}
-use Rattle.line_marks.proofs.Marks.{stands-fits}
+use Rattle.text.proofs.Standing.{stands-fits}
 use Rattle.line_marks.proofs.start.Statement.{statement}
 use Rattle.line_marks.proofs.start.Tie as tie
 

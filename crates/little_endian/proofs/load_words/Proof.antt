@@ -21,6 +21,6 @@ load-words-spec =
     (omega arith) (omega arith) (omega arith)
     (λ c.
     placed-again (λ (x y : ℕ). y) (c .before .before .loop .inv) (omega arith) (omega arith)
-    (c .load-word .ensures ∙ sym (getD-words _ _ _ (omega arith))))
+    (c .load-number .ensures ∙ sym (getD-words _ _ _ (omega arith))))
     (omega arith)
     (λ c. placed-end (λ (x y : ℕ). y) (c .before .loop .inv) (omega arith) ∙ put-all _ _ (length-words _ _)))

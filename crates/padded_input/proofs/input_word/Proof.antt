@@ -11,10 +11,10 @@ pub input-word-spec : {M : Type 1} → statement M
 unfolding blocks
 input-word-spec =
     tie.close
-    (tie.spec (λ password salt numbers at v₀ i₀ v i. Loaded (padded password salt numbers) at i v) (λ password salt numbers at v₀ i₀ v i. i)
+    (tie.spec (λ password salt numbers at v₀ i₀ v i. Loaded 8 (padded password salt numbers) at i v) (λ password salt numbers at v₀ i₀ v i. i)
     (λ c. loaded-none
     (padded-bytes _ _ _ (λ i. c .before .before .shared-slice-known .given i .fits) (λ i. c .before .shared-slice-known2 .given i .fits))
-    (rw length-padded (omega arith)))
+    (omega arith) (rw length-padded (omega arith)))
     (omega arith) (λ c. omega (arith, loaded-room (c .before .loop .inv) (omega arith))) (omega arith) (omega arith) (λ c κs. tt)
     (λ c. omega (arith, loaded-room (c .before .before .before .loop .inv) (omega arith))) (omega arith)
     (λ c. loaded-more (c .before .before .before .loop .inv) (omega arith) (c .widened .ensures ∙ c .before .input-byte .ensures))

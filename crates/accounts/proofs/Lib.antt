@@ -1,0 +1,2 @@
+-- The laws of accounts and of the book.
+pub mod Decoding
