@@ -1,2 +1,3 @@
 -- The laws of accounts and of the book.
 pub mod Decoding
+pub mod Walking

@@ -1,9 +1,10 @@
 -- The book: a list of accounts with distinct numbers, and how it changes.
-use Prim.Native.Nat.{ℕ, _+_, _-_}
+use mathlib.Core.Path.{_≡_}
+use Prim.Native.Nat.{ℕ, _+_, _-_, _≤_}
 use mathlib.Core.Bool.{Bool, true, false, cond, not, _&&_, _||_}
 use mathlib.Core.List.{List, [], _∷_, _++_}
 use lib.Dec.{eqb}
-use lib.ListN.{length, replicate}
+use lib.ListN.{length, drop, replicate}
 use Rattle.lists.specs.Zip.{putInto}
 use Rattle.accounts.specs.Accounts.{Account, encode, encodeAll, accounts}
 
@@ -41,6 +42,14 @@ with a l = without (a .number) l ++ (a ∷ [])
 -- a run of whole accounts, and nothing behind them
 abbrev pub isRun : List ℕ → Bool
 isRun bytes = eqb (length (encodeAll (accounts bytes))) (length bytes)
+
+-- the same as a statement, and of what stands from a place on
+abbrev pub Run : List ℕ → Type 0
+Run bytes = length (encodeAll (accounts bytes)) ≡ length bytes
+
+pub record Running (book : List ℕ) (at : ℕ) : Type 0 where
+  pub inside : at ≤ length book
+  pub rest : Run (drop at book)
 
 unfoldable pub isBook : List ℕ → Bool
 isBook bytes = isRun bytes && distinct (accounts bytes)

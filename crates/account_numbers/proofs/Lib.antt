@@ -1,0 +1,2 @@
+-- The laws of the numbers of accounts.
+pub mod Comparing

@@ -1,0 +1,2 @@
+-- The numbers of accounts, as the code compares them.
+pub mod Numbers
