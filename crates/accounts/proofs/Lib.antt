@@ -1,3 +1,5 @@
 -- The laws of accounts and of the book.
 pub mod Decoding
 pub mod Walking
+pub mod Inverse
+pub mod Changing
