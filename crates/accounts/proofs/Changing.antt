@@ -34,7 +34,7 @@ has-append n (a ∷ l) m = ap (λ (b : Bool). eqb (a .number) n || b) (has-appen
     or-assoc true b c = refl
     or-assoc false b c = refl
 
-neither : (s t : Bool) → (s || t) ≡ false → (s ≡ false) × (t ≡ false)
+pub neither : (s t : Bool) → (s || t) ≡ false → (s ≡ false) × (t ≡ false)
 neither true t h = absurd (false≢true (sym h))
 neither false t h = (refl, h)
 
@@ -107,7 +107,7 @@ behind-lacks n (a ∷ l) d =
     go true h once more = ap (λ (t : Bool). has n (cond t l (behind n l))) h ∙ ap (λ (k : ℕ). has k l) (sym (eqb-true _ _ h)) ∙ once
     go false h once more = ap (λ (t : Bool). has n (cond t l (behind n l))) h ∙ more
 
-missing-place : (n : ℕ) (l : List Account) → has n l ≡ false → placeOf n l ≡ length (encodeAll l)
+pub missing-place : (n : ℕ) (l : List Account) → has n l ≡ false → placeOf n l ≡ length (encodeAll l)
 unfolding has placeOf encodeAll
 missing-place n [] e = refl
 missing-place n (a ∷ l) e =

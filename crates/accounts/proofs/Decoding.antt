@@ -8,6 +8,7 @@ use lib.Dec.{eqb, leb}
 use lib.ListN.{length, take, drop, length-append, length-take, length-drop}
 use borrow.Author.Tests.{leb-true, le-leb, lt-leb, eqb-true, eq-eqb, ne-eqb}
 use Rattle.little_endian.proofs.ByteLaws.{length-bytes}
+use Rattle.settings.specs.declared.StoredParameters.{StoredParameters}
 use Rattle.refusals.specs.Checks.{first, storedChecks}
 use Rattle.refusals.proofs.Accepted.{accepted}
 use Rattle.text.specs.Text.{standsAt}
@@ -17,9 +18,13 @@ use Rattle.accounts.specs.declared.Entry.{Entry}
 
 -- ---- sizes
 
+pub length-head : (number : ℕ) (p : StoredParameters) (salt key : ℕ) → length (head number p salt key) ≡ headBytes
+unfolding head
+length-head number p salt key = simp (length-append, length-bytes) (omega arith)
+
 pub length-encode : (a : Account) → length (encode a) ≡ headBytes + length (a .salt) + length (a .key)
-unfolding encode head
-length-encode a = simp (length-append, length-bytes) (omega arith)
+unfolding encode
+length-encode a = simp (length-append, length-head) (omega arith)
 
 pub encode-longer : (a : Account) → headBytes ≤ length (encode a)
 encode-longer a = omega (arith, length-encode a)

@@ -19,7 +19,7 @@ use Rattle.text.specs.Text.{standsAt}
 use Rattle.accounts.specs.Accounts.{Account, mark, headBytes, head, encode, encodeAll, numberAt, headOf, limits, isWhole, accountOf, accounts, entryOf, Good}
 use Rattle.accounts.specs.Book.{Run}
 use Rattle.accounts.specs.declared.Entry.{Entry}
-use Rattle.accounts.proofs.Decoding.{length-encode, encode-longer, length-all-cons, Whole, whole, is-whole, size-is, sized, front-size, accounts-whole, accounts-none, accounts-end, entry-whole}
+use Rattle.accounts.proofs.Decoding.{length-head, length-encode, encode-longer, length-all-cons, Whole, whole, is-whole, size-is, sized, front-size, accounts-whole, accounts-none, accounts-end, entry-whole}
 use Rattle.accounts.proofs.Walking.{run-whole, none-length, step-moves, step-inside, step-accounts, run-behind}
 
 -- ---- from bytes to accounts and back
@@ -144,10 +144,6 @@ module _ (a : Account) (g : Good a) (rest : List ℕ) where
   pub entry-read : entryOf u ≡ entry a
   entry-read = entry-whole u whole-read ∙ head-read
 
-  head-long : length (head (a .number) (a .parameters) (length (a .salt)) (length (a .key))) ≡ headBytes
-  unfolding head leBytes
-  head-long = refl
-
   pub account-read : accountOf u ≡ a
   unfolding accountOf encode
   account-read =
@@ -155,7 +151,7 @@ module _ (a : Account) (g : Good a) (rest : List ℕ) where
       let salt = a .salt in
       let key = a .key in
       let split : u ≡ h ++ (salt ++ (key ++ rest)) = append-assoc h (salt ++ key) rest ∙ ap (λ (l : List ℕ). h ++ l) (append-assoc salt key rest) in
-      let behind : drop headBytes u ≡ salt ++ (key ++ rest) = ap (drop headBytes) split ∙ drop-at h (salt ++ (key ++ rest)) headBytes head-long in
+      let behind : drop headBytes u ≡ salt ++ (key ++ rest) = ap (drop headBytes) split ∙ drop-at h (salt ++ (key ++ rest)) headBytes (length-head _ _ _ _) in
       let salts : take (length salt) (drop headBytes u) ≡ salt = ap (take (length salt)) behind ∙ take-at salt (key ++ rest) (length salt) refl in
       let keys : take (length key) (drop (headBytes + length salt) u) ≡ key =
       ap (take (length key)) (sym (drop-drop (length salt) headBytes u) ∙ ap (drop (length salt)) behind ∙ drop-at salt (key ++ rest) (length salt) refl)

@@ -3,3 +3,4 @@ pub mod Decoding
 pub mod Walking
 pub mod Inverse
 pub mod Changing
+pub mod Refusing

@@ -7,10 +7,15 @@ use mathlib.Core.List.{List, [], _∷_, _++_}
 use lib.ListN.{length, take}
 use Rattle.settings.specs.Settings.{usual}
 use Rattle.settings.specs.declared.Parameters.{Parameters}
+use Rattle.settings.specs.declared.StoredParameters.{StoredParameters}
 use Rattle.refusals.specs.Checks.{Check, first, answered, passwordCheck, matrixCheck, bookCheck, accountCheck, bookRoomCheck, storedChecks}
 use Rattle.accounts.specs.Accounts.{Account, encodeAll, accounts}
 use Rattle.accounts.specs.Book.{has, found, placeOf, without, with, isBook, rewritten}
 use Rattle.accounts.specs.declared.BookAnswer.{BookAnswer}
+
+-- the account that a caller gives part by part
+abbrev pub account : ℕ → StoredParameters → List ℕ → List ℕ → Account
+account number p salt key = record { number = number; parameters = p; salt = salt; key = key }
 
 -- the accounts of the used part
 abbrev pub accountsIn : ℕ → List ℕ → List Account

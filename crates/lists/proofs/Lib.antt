@@ -8,3 +8,4 @@ pub mod Traces
 pub mod Cleared
 pub mod EveryLaws
 pub mod Grown
+pub mod Putting
