@@ -130,6 +130,13 @@ found-inside n l e =
 pub found-place : (n : ℕ) (l : List Account) → has n l ≡ true → placeOf n l < length (encodeAll l)
 found-place n l e = omega (arith, found-inside n l e, encode-longer (found n l))
 
+pub place-most : (n : ℕ) (l : List Account) → placeOf n l ≤ length (encodeAll l)
+place-most n l = go (has n l) refl
+  where
+    go : (b : Bool) → has n l ≡ b → placeOf n l ≤ length (encodeAll l)
+    go true e = omega (arith, found-place n l e)
+    go false e = omega (arith, missing-place n l e)
+
 without-found : (n : ℕ) (l : List Account) → has n l ≡ true → distinct l ≡ true → without n l ≡ before n l ++ behind n l
 unfolding without
 without-found n l e d =
@@ -226,10 +233,3 @@ module _ (u : List ℕ) (h : AllBytes u) (book : isBook u ≡ true) (n : ℕ) wh
         length-drop place u,
         ap length all-bytes,
       )
-    where
-      place-most : (k : ℕ) (m : List Account) → placeOf k m ≤ length (encodeAll m)
-      place-most k m = go (has k m) refl
-        where
-          go : (b : Bool) → has k m ≡ b → placeOf k m ≤ length (encodeAll m)
-          go true e = omega (arith, found-place k m e)
-          go false e = omega (arith, missing-place k m e)

@@ -83,18 +83,10 @@ pub size-is : (u : List ℕ) → headOf u .size ≡ headBytes + headOf u .salt +
 unfolding headOf
 size-is u = refl
 
--- salt and key are within their limits
-pub record Sized (e : Entry) : Type 0 where
-  pub salt-least : 8 ≤ e .salt
-  pub salt-most : e .salt ≤ 64
-  pub key-least : 1 ≤ e .key
-  pub key-most : e .key ≤ 1024
-
-pub sized : (e : Entry) → first (limits e) ≡ 0 → Sized e
+-- the most bytes of salt and key
+pub stored-most : (key salt : ℕ) (p : StoredParameters) → first (storedChecks key salt p) ≡ 0 → (salt ≤ 64) × (key ≤ 1024)
 unfolding storedChecks
-sized e z =
-    let bounds = accepted (limits e) (omega arith) z in
-    record { salt-least = omega arith; salt-most = omega arith; key-least = omega arith; key-most = omega arith }
+stored-most key salt p z = let bounds = accepted (storedChecks key salt p) (omega arith) z in (omega arith, omega arith)
 
 pub front-size : (u : List ℕ) → Whole u → length (encode (accountOf u)) ≡ headOf u .size
 unfolding accountOf

@@ -19,7 +19,7 @@ use Rattle.text.specs.Text.{standsAt}
 use Rattle.accounts.specs.Accounts.{Account, mark, headBytes, head, encode, encodeAll, numberAt, headOf, limits, isWhole, accountOf, accounts, entryOf, Good}
 use Rattle.accounts.specs.Book.{Run}
 use Rattle.accounts.specs.declared.Entry.{Entry}
-use Rattle.accounts.proofs.Decoding.{length-head, length-encode, encode-longer, length-all-cons, Whole, whole, is-whole, size-is, sized, front-size, accounts-whole, accounts-none, accounts-end, entry-whole}
+use Rattle.accounts.proofs.Decoding.{length-head, length-encode, encode-longer, length-all-cons, Whole, whole, is-whole, size-is, front-size, accounts-whole, accounts-none, accounts-end, entry-whole}
 use Rattle.accounts.proofs.Walking.{run-whole, none-length, step-moves, step-inside, step-accounts, run-behind}
 
 -- ---- from bytes to accounts and back

@@ -4,3 +4,4 @@ pub mod Walking
 pub mod Inverse
 pub mod Changing
 pub mod Refusing
+pub mod Rewriting

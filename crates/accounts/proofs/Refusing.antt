@@ -53,19 +53,21 @@ module _ (used : ℕ) (book : List ℕ) where
       twice true = refl
       twice false = refl
 
+  pub passed-book : refuses (goodBook used book) ≡ false → GoodBook used book
+  passed-book e =
+      let parts = neither (ltb (length book) used) (ltb (flag (isBook u)) 1 || false) e in
+      record { passes = e; inside = ltb-false _ _ (parts .0); is-book = flagged (isBook u) (parts .1) }
+    where
+      flagged : (t : Bool) → (ltb (flag t) 1 || false) ≡ false → t ≡ true
+      flagged true h = refl
+      flagged false h = absurd (true≢false h)
+
   module _ {r : Bool} (is : r ≡ not (refuses (goodBook used book))) where
     pub bad-book : r ≡ false → refuses (goodBook used book) ≡ true
     bad-book e = not-false _ (sym is ∙ e)
 
     pub good-book : r ≡ true → GoodBook used book
-    good-book e =
-        let passes = not-true (refuses (goodBook used book)) (sym is ∙ e) in
-        let parts = neither (ltb (length book) used) (ltb (flag (isBook u)) 1 || false) passes in
-        record { passes = passes; inside = ltb-false _ _ (parts .0); is-book = flagged (isBook u) (parts .1) }
-      where
-        flagged : (t : Bool) → (ltb (flag t) 1 || false) ≡ false → t ≡ true
-        flagged true h = refl
-        flagged false h = absurd (true≢false h)
+    good-book e = passed-book (not-true (refuses (goodBook used book)) (sym is ∙ e))
 
 -- ---- finding
 
