@@ -16,7 +16,7 @@ use Rattle.accounts.specs.Book.{has, distinct, found, placeOf, without, 
 use Rattle.accounts.specs.declared.Entry.{Entry}
 use Rattle.accounts.proofs.Decoding.{length-encode, encode-longer, length-all-cons, entry-fits}
 use Rattle.accounts.proofs.Walking.{run}
-use Rattle.accounts.proofs.Inverse.{entry, entry-read, accounts-written, accounts-good}
+use Rattle.accounts.proofs.Inverse.{entry, entry-read, whole-read, account-read, accounts-written, accounts-good}
 
 -- ---- lists of accounts joined
 
@@ -193,6 +193,13 @@ module _ (u : List ℕ) (h : AllBytes u) (book : isBook u ≡ true) (n : ℕ) wh
       all-good : (x : List Account) (y : Account) (z : List Account) → All Good (x ++ (y ∷ z)) → Good y
       all-good [] y z g = g .0
       all-good (w ∷ x) y z g = all-good x y z (g .1)
+
+  -- the account at the place
+  pub found-whole : has n l ≡ true → isWhole (drop place u) ≡ true
+  found-whole e = ap isWhole (at-place e) ∙ whole-read (found n l) (found-good e) (encodeAll (behind n l))
+
+  pub found-account : has n l ≡ true → accountOf (drop place u) ≡ found n l
+  found-account e = ap accountOf (at-place e) ∙ account-read (found n l) (found-good e) (encodeAll (behind n l))
 
   -- what the reader tells at the place
   pub found-entry : has n l ≡ true → entryOf (drop place u) ≡ entry (found n l)

@@ -135,7 +135,7 @@ module _ (a : Account) (g : Good a) (rest : List ℕ) where
         key = key i;
       }
 
-  whole-read : isWhole u ≡ true
+  pub whole-read : isWhole u ≡ true
   unfolding encode head
   whole-read =
       is-whole u (same-of-equal mark) (ap (λ (e : Entry). first (limits e)) head-read ∙ g .within)

@@ -29,7 +29,7 @@ module _ (number used : ℕ) (book : List ℕ) {f : BookAnswer} (is : f ≡ find
   abbrev l : List Account
   l = accountsIn used book
 
-  refusal-is : f .refusal ≡ findNumber number used book
+  pub refusal-is : f .refusal ≡ findNumber number used book
   unfolding findAnswer placed noPlace
   refusal-is =
       ap (λ (a : BookAnswer). a .refusal) is

@@ -33,11 +33,15 @@ pub record Derived (p : Parameters) (x : Input) (key matrix key′ matrix′ : L
   pub key-after : key′ ≡ answered (plainNumber p x matrix) (keyOf (settings p) x matrix) key
   pub matrix-after : matrix′ ≡ clearedMatrix p x matrix
 
--- the check of a stored key, which answers 1 for yes
-pub record Compared (p : Parameters) (x : Input) (stored matrix matrix′ : List ℕ) (r : Costs) (same : ℕ) : Type 0 where
-  pub answer : r ≡ costAnswer (plainNumber p x matrix) (lengths x) p
-  pub same-is : same ≡ answered (plainNumber p x matrix) (flag (sameBytes stored (keyOf (settings p) x matrix))) 0
-  pub matrix-after : matrix′ ≡ clearedMatrix p x matrix
+-- a check of a key, which answers 1 for yes, by the number of its first refusal
+pub record ComparedBy (number : ℕ) (p : Parameters) (x : Input) (stored matrix matrix′ : List ℕ) (r : Costs) (same : ℕ) : Type 0 where
+  pub answer : r ≡ costAnswer number (lengths x) p
+  pub same-is : same ≡ answered number (flag (sameBytes stored (keyOf (settings p) x matrix))) 0
+  pub matrix-after : matrix′ ≡ answered number (cleared (matrixWords (settings p)) matrix) matrix
+
+-- the check of a stored key
+abbrev pub Compared : Parameters → Input → List ℕ → List ℕ → List ℕ → Costs → ℕ → Type 0
+Compared p x stored matrix = ComparedBy (plainNumber p x matrix) p x stored matrix
 
 -- the recorded derivation, which also answers the state after the last visit and keeps the end matrix
 pub record Recorded (p : Parameters) (x : Input) (key matrix visited key′ matrix′ visited′ : List ℕ) (r : Costs) (state : List ℕ) : Type 0 where

@@ -1,0 +1,2 @@
+-- The laws of checking a password against an account.
+pub mod Checks
