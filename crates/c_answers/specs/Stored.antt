@@ -12,6 +12,8 @@ use Rattle.choice.specs.declared.Limits.{Limits}
 use Rattle.choice.specs.declared.Choice.{Choice}
 use Rattle.line_form.specs.declared.LineValues.{LineValues}
 use Rattle.line_form.specs.declared.LineLength.{LineLength}
+use Rattle.accounts.specs.declared.BookAnswer.{BookAnswer}
+use Rattle.accounts.specs.declared.Entry.{Entry}
 
 abbrev pub parameters : ℕ → ℕ → ℕ → ℕ → ℕ → Bool → Parameters
 parameters T R C ρ ω blamka =
@@ -55,3 +57,18 @@ storedValues number values =
 
 abbrev pub storedLength : ℕ → ℕ → LineLength
 storedLength number length = record { refusal = number; length = length }
+
+-- the answer about a book that a returned number and a stored place are
+abbrev pub storedPlace : ℕ → ℕ → BookAnswer
+storedPlace number place = record { refusal = number; place = place }
+
+-- the account that a returned size and six stored numbers are
+abbrev pub storedEntry : ℕ → List ℕ → Entry
+storedEntry size values =
+    record {
+      size = size;
+      number = getD values 0 0;
+      parameters = storedParameters (getD values 1 0) (getD values 2 0) (getD values 3 0);
+      salt = getD values 4 0;
+      key = getD values 5 0;
+    }

@@ -1,5 +1,7 @@
 // An answer under a C name: its fields are stored where the caller lends a place for them, zeros where the call was refused, and its
 // number is returned. These functions have no proof file, so that a field left alone is refused for what they ensure.
+use accounts::BookAnswer;
+use accounts::Entry;
 use checking::Checked;
 use choice::Choice;
 use derivation::Costs;
@@ -11,7 +13,7 @@ use walk_question::WalkAnswer;
 ghost use mathlib.Core.Path.{_≡_};
 ghost use mathlib.Core.List.{[], _∷_};
 ghost use Rattle.derivation.specs.Answers.{flag as «number-of»};
-ghost use Rattle.c_answers.specs.Stored.{stored as «counts-stored», storedChoice, storedValues, storedLength};
+ghost use Rattle.c_answers.specs.Stored.{stored as «counts-stored», storedChoice, storedValues, storedLength, storedPlace, storedEntry};
 
 // Stores the counts of an answer, and returns its number.
 pub fn store_costs(a: Costs, counts: &mut [u64; 3]) -> u32
@@ -77,4 +79,21 @@ pub fn store_pair(a: Pair, numbers: &mut [u64; 2])
     ensures { λ _. ⌜ now (numbers .exit) ≡ a .low ∷ a .high ∷ [] ⌝ }
 {
     *numbers = [a.low as u64, a.high as u64];
+}
+
+// Stores a place in a book of accounts, and returns the number of the answer.
+pub fn store_place(a: BookAnswer, place: &mut usize) -> u32
+    ensures { λ r. ⌜ storedPlace r (now (place .exit)) ≡ a ⌝ }
+{
+    *place = a.place;
+    a.refusal
+}
+
+// Stores the numbers of an account, and returns its size.
+pub fn store_entry(e: Entry, values: &mut [usize; 6]) -> usize
+    ensures { λ r. ⌜ storedEntry r (now (values .exit)) ≡ e ⌝ }
+{
+    let p = e.parameters;
+    *values = [e.number as usize, p.time, p.rows, p.columns, e.salt, e.key];
+    e.size
 }

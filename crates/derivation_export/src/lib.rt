@@ -3,8 +3,10 @@
 // they were.
 use c_answers::store_choice;
 use c_answers::store_costs;
+use c_answers::store_entry;
 use c_answers::store_length;
 use c_answers::store_pair;
+use c_answers::store_place;
 use c_answers::store_row;
 use c_answers::store_same;
 use c_answers::store_state;
@@ -19,7 +21,7 @@ use settings::StoredParameters;
 ghost use mathlib.Core.Path.{_≡_};
 ghost use mathlib.Core.Bool.{false};
 ghost use mathlib.Core.List.{[], _∷_};
-ghost use lib.ListN.{length};
+ghost use lib.ListN.{length, drop};
 ghost use Rattle.profile.specs.Profile.{usualRotation};
 ghost use Rattle.packing.specs.Packing.{lowOf, highOf};
 ghost use Rattle.input.specs.Input.{input};
@@ -30,7 +32,10 @@ ghost use Rattle.choice.specs.Choice.{choiceAnswer};
 ghost use Rattle.walk_question.specs.Question.{walkAnswer};
 ghost use Rattle.line_form.specs.Contracts.{Read, Written};
 ghost use Rattle.line_writing.specs.Values.{values};
-ghost use Rattle.c_answers.specs.Stored.{parameters, storedParameters, lengthsOf, limitsOf, stored as «counts-stored», storedChoice, storedValues, storedLength};
+ghost use Rattle.accounts.specs.Accounts.{entryOf};
+ghost use Rattle.accounts.specs.Contracts.{account, findAnswer, Removed, Added};
+ghost use Rattle.book_check.specs.Contracts.{AccountChecked};
+ghost use Rattle.c_answers.specs.Stored.{parameters, storedParameters, lengthsOf, limitsOf, stored as «counts-stored», storedChoice, storedValues, storedLength, storedPlace, storedEntry};
 
 // The parameters that a caller gives one by one; the mixer is BlaMka where the last is true.
 fn gathered(
@@ -230,4 +235,77 @@ pub extern "C" fn lyra2_line_write(
         columns,
     };
     store_length(line_writing::write_line(p, salt, key, line), length)
+}
+
+// Finds an account in a book: the place of its mark is stored.
+#[no_mangle]
+pub extern "C" fn lyra2_book_find(book: &[u8], used: usize, number: u32, place: &mut usize) -> u32
+    ensures { λ r. ⌜ storedPlace r (now (place .exit)) ≡ findAnswer number used (now (book .entry)) ⌝ }
+{
+    store_place(book_finding::find(book, used, number), place)
+}
+
+// Adds an account to a book, in place of one of its number: the new used length is stored.
+#[no_mangle]
+pub extern "C" fn lyra2_book_add(
+    book: &mut [u8],
+    used: usize,
+    number: u32,
+    time: usize,
+    rows: usize,
+    columns: usize,
+    salt: &[u8],
+    key: &[u8],
+    used_after: &mut usize,
+) -> u32
+    ensures { λ r. ⌜ Added (account number (storedParameters time rows columns) (now (salt .entry)) (now (key .entry))) used (now (book .entry)) (now (book .exit)) (storedPlace r (now («used_after» .exit))) ⌝ }
+{
+    let p = StoredParameters {
+        time,
+        rows,
+        columns,
+    };
+    store_place(
+        book_changes::add(book, used, number, p, salt, key),
+        used_after,
+    )
+}
+
+// Removes an account from a book: the new used length is stored.
+#[no_mangle]
+pub extern "C" fn lyra2_book_remove(
+    book: &mut [u8],
+    used: usize,
+    number: u32,
+    used_after: &mut usize,
+) -> u32
+    ensures { λ r. ⌜ Removed number used (now (book .entry)) (now (book .exit)) (storedPlace r (now («used_after» .exit))) ⌝ }
+{
+    store_place(book_changes::remove(book, used, number), used_after)
+}
+
+// Checks a password against an account of a book: `same` becomes 1 where its key is the password's, else 0.
+#[no_mangle]
+pub extern "C" fn lyra2_book_check(
+    password: &[u8],
+    book: &[u8],
+    used: usize,
+    number: u32,
+    matrix: &mut [u64],
+    same: &mut u32,
+    counts: &mut [u64; 3],
+) -> u32
+    ensures { λ r. ⌜ AccountChecked (now (password .entry)) (now (book .entry)) used number (now (matrix .entry)) (now (matrix .exit)) («counts-stored» r (now (counts .exit))) (now (same .exit)) ⌝ }
+{
+    let a = book_check::check_account(password, book, used, number, matrix);
+    store_same(a, same);
+    store_costs(a.costs, counts)
+}
+
+// The account at a place of the used part of a book: its numbers are stored, and its size is returned, 0 where there is none.
+#[no_mangle]
+pub extern "C" fn lyra2_book_account(book: &[u8], place: usize, values: &mut [usize; 6]) -> usize
+    ensures { λ r. ⌜ storedEntry r (now (values .exit)) ≡ entryOf (drop place (now (book .entry))) ⌝ }
+{
+    store_entry(account_reader::account_at(book, place), values)
 }
