@@ -110,4 +110,55 @@ extern "C" {
         line_room: usize,
         line_len: *mut usize,
     ) -> u32;
+
+    pub fn lyra2_book_find(
+        book: *const u8,
+        book_len: usize,
+        used: usize,
+        number: u32,
+        place: *mut usize,
+    ) -> u32;
+
+    pub fn lyra2_book_add(
+        book: *mut u8,
+        book_len: usize,
+        used: usize,
+        number: u32,
+        time: usize,
+        rows: usize,
+        columns: usize,
+        salt: *const u8,
+        salt_len: usize,
+        key: *const u8,
+        key_len: usize,
+        used_after: *mut usize,
+    ) -> u32;
+
+    pub fn lyra2_book_remove(
+        book: *mut u8,
+        book_len: usize,
+        used: usize,
+        number: u32,
+        used_after: *mut usize,
+    ) -> u32;
+
+    pub fn lyra2_book_check(
+        password: *const u8,
+        password_len: usize,
+        book: *const u8,
+        book_len: usize,
+        used: usize,
+        number: u32,
+        matrix: *mut u64,
+        matrix_len: usize,
+        same: *mut u32,
+        counts: *mut [u64; 3],
+    ) -> u32;
+
+    pub fn lyra2_book_account(
+        book: *const u8,
+        book_len: usize,
+        place: usize,
+        values: *mut [usize; 6],
+    ) -> usize;
 }

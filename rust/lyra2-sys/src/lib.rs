@@ -2,8 +2,8 @@
 //!
 //! Each function returns 0 or the number of a refusal and leaves the places for the answer to the caller, who
 //! can so see what a call does to them: after a refusal `same`, the counts, the state, `row1`, the values of a
-//! choice and of a line and a line's length are 0, and all other memory is what it was. [`record_pair`] alone
-//! refuses nothing and returns its answer.
+//! choice and of a line, a line's length, an account's place and a book's new used length are 0, and all other
+//! memory is what it was. [`record_pair`] and [`book_account`] refuse nothing and return their answer.
 //! The crate `lyra2` turns the numbers into results.
 //!
 //! All functions here are safe to call. The proved functions ask nothing of their arguments, read and write
@@ -279,4 +279,99 @@ pub fn line_write(parts: LineParts, line: &mut [u8], line_len: &mut usize) -> u3
             line_len,
         )
     }
+}
+
+/// A book of accounts that is only read: the lent bytes, of which the first `used` hold the accounts.
+#[derive(Clone, Copy)]
+pub struct Book<'a> {
+    /// The lent bytes.
+    pub bytes: &'a [u8],
+    /// How many of them are used.
+    pub used: usize,
+}
+
+/// The numbers of an account: its own, T, R, C, the salt's length and the key's.
+pub type AccountValues = [usize; 6];
+
+/// Looks an account up: `place` becomes the index of its first byte in the book.
+pub fn book_find(book: Book, number: u32, place: &mut usize) -> u32 {
+    // SAFETY: the book's pointer goes with its length, and the place is borrowed by this call alone.
+    unsafe {
+        foreign::lyra2_book_find(
+            book.bytes.as_ptr(),
+            book.bytes.len(),
+            book.used,
+            number,
+            place,
+        )
+    }
+}
+
+/// Puts an account last, of which there is none of that number any more; `used_after` becomes the new used length.
+pub fn book_add(
+    book: &mut [u8],
+    used: usize,
+    number: u32,
+    parts: LineParts,
+    used_after: &mut usize,
+) -> u32 {
+    // SAFETY: each pointer comes from a slice and goes with that slice's length, or is to a number; book and used_after
+    // are borrowed by this call alone.
+    unsafe {
+        foreign::lyra2_book_add(
+            book.as_mut_ptr(),
+            book.len(),
+            used,
+            number,
+            parts.time,
+            parts.rows,
+            parts.columns,
+            parts.salt.as_ptr(),
+            parts.salt.len(),
+            parts.key.as_ptr(),
+            parts.key.len(),
+            used_after,
+        )
+    }
+}
+
+/// Takes an account out and moves the later ones up; `used_after` becomes the new used length.
+pub fn book_remove(book: &mut [u8], used: usize, number: u32, used_after: &mut usize) -> u32 {
+    // SAFETY: the book's pointer goes with its length, and book and used_after are borrowed by this call alone.
+    unsafe { foreign::lyra2_book_remove(book.as_mut_ptr(), book.len(), used, number, used_after) }
+}
+
+/// Checks a password against the key of an account, with the usual settings: `same` becomes 1 if the key is that of the
+/// password, else 0; refused, it becomes 0. The used matrix ends as zeros.
+pub fn book_check(
+    password: &[u8],
+    book: Book,
+    number: u32,
+    matrix: &mut [u64],
+    same: &mut u32,
+    counts: &mut Counts,
+) -> u32 {
+    // SAFETY: each pointer comes from a slice and goes with that slice's length, or is to numbers; matrix, same and
+    // counts are borrowed by this call alone.
+    unsafe {
+        foreign::lyra2_book_check(
+            password.as_ptr(),
+            password.len(),
+            book.bytes.as_ptr(),
+            book.bytes.len(),
+            book.used,
+            number,
+            matrix.as_mut_ptr(),
+            matrix.len(),
+            same,
+            counts,
+        )
+    }
+}
+
+/// The account whose first byte stands at a place of the used part of a book: `values` becomes its numbers, and the
+/// number of its bytes is returned. Where no whole account within the limits stands there, all of these are 0.
+pub fn book_account(used: &[u8], place: usize, values: &mut AccountValues) -> usize {
+    // SAFETY: the pointer comes from a slice and goes with its length, and the values are borrowed by this call alone.
+    unsafe { foreign::lyra2_book_account(used.as_ptr(), used.len(), place, values) }
 }
