@@ -5,3 +5,5 @@ pub mod Inverse
 pub mod Changing
 pub mod Refusing
 pub mod Rewriting
+pub mod Independence
+pub mod Theorems
