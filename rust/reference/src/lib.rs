@@ -13,9 +13,9 @@
 //! | `visits` | 22 to 32 |
 //! | `derivation` | 33 to 36, and the operations open to callers |
 //!
-//! `line` reads and writes the login lines of request #105, `record` has the words in which the visits are noted down, and
-//! `choice` chooses T, R and C by the cost question (request #109), with `search` to hold it against; the algorithm knows none
-//! of them.
+//! `line` reads and writes the login lines of request #105, `record` has the words in which the visits are noted down,
+//! `choice` chooses T, R and C by the cost question (request #109), with `search` to hold it against, and `book` keeps accounts,
+//! each of which is an `account` (request #110); the algorithm knows none of them.
 //!
 //! The caller lends every buffer. A refused call leaves all of them as they were. An accepted plain derivation
 //! or check ends with zeros in the used matrix (request #104); only the recorded derivation keeps its end matrix.
@@ -36,7 +36,9 @@
 #![forbid(unsafe_code)]
 #![warn(missing_docs)]
 
+pub mod account;
 pub mod base64;
+pub mod book;
 pub mod choice;
 pub mod cost;
 pub mod derivation;
@@ -53,6 +55,8 @@ pub mod vectors;
 mod visits;
 pub mod walk;
 
+pub use account::{Account, AccountValues};
+pub use book::{book_account, book_add, book_check, book_find, book_remove};
 pub use choice::{choose, Choice, Limits};
 pub use cost::cost;
 pub use derivation::{check, derive, derive_recorded, Checked, Inputs, Recorded};

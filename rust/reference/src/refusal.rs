@@ -81,6 +81,12 @@ refusals! {
     Tries = 15, "at least one column count must be tried";
     /// No T from 1 on, R and C fit the words and the rounds.
     NothingFits = 16, "words and rounds must be enough for T = 1, R = 3 and C = 1";
+    /// The used length passes the book, or the used part is not made of accounts, each number once.
+    DamagedBook = 17, "the used part must be whole accounts within their limits, each number once";
+    /// The book has no account of the number.
+    NoAccount = 18, "the book must have an account of the number";
+    /// The book has no room for the account that is to be added.
+    BookTooShort = 19, "the book must have room for the accounts";
 }
 
 impl Refusal {
@@ -183,6 +189,29 @@ pub const LINE_WRITE_CHECKS: &[Refusal] = &[
     Refusal::OutputTooShort,
 ];
 
+/// The checks of finding and of removing an account.
+pub const BOOK_FIND_CHECKS: &[Refusal] = &[Refusal::DamagedBook, Refusal::NoAccount];
+
+/// The checks of adding an account: those on the new account come before those on the book.
+pub const BOOK_ADD_CHECKS: &[Refusal] = &[
+    Refusal::KeyLength,
+    Refusal::SaltTooShort,
+    Refusal::SaltTooLong,
+    Refusal::TimeCost,
+    Refusal::Rows,
+    Refusal::Columns,
+    Refusal::DamagedBook,
+    Refusal::BookTooShort,
+];
+
+/// The checks of checking a password against an account.
+pub const BOOK_CHECK_CHECKS: &[Refusal] = &[
+    Refusal::PasswordLength,
+    Refusal::DamagedBook,
+    Refusal::NoAccount,
+    Refusal::MatrixWords,
+];
+
 /// Refuses unless the condition holds.
 fn demand(holds: bool, refusal: Refusal) -> Result<(), Refusal> {
     if holds {
@@ -192,11 +221,16 @@ fn demand(holds: bool, refusal: Refusal) -> Result<(), Refusal> {
     }
 }
 
+/// The length of a password against its limit: the first check of checking one against an account.
+pub fn check_password(password_len: u64) -> Result<(), Refusal> {
+    let password_fits = PASSWORD_LENGTHS.contains(&password_len);
+    demand(password_fits, Refusal::PasswordLength)
+}
+
 /// The lengths of key, password and salt against their limits.
 fn check_lengths(key_len: u64, password_len: u64, salt_len: u64) -> Result<(), Refusal> {
     demand(KEY_LENGTHS.contains(&key_len), Refusal::KeyLength)?;
-    let password_fits = PASSWORD_LENGTHS.contains(&password_len);
-    demand(password_fits, Refusal::PasswordLength)?;
+    check_password(password_len)?;
     let (shortest, longest) = (*SALT_LENGTHS.start(), *SALT_LENGTHS.end());
     demand(salt_len >= shortest, Refusal::SaltTooShort)?;
     demand(salt_len <= longest, Refusal::SaltTooLong)
@@ -247,6 +281,11 @@ pub fn check_limits(given: &Limits) -> Result<(), Refusal> {
 /// The last check of reading and of writing a login line: whether each output has enough bytes.
 pub fn check_outputs(enough: bool) -> Result<(), Refusal> {
     demand(enough, Refusal::OutputTooShort)
+}
+
+/// The last check of adding an account: whether the book has enough bytes for all accounts, the new one among them.
+pub fn check_book_room(enough: bool) -> Result<(), Refusal> {
+    demand(enough, Refusal::BookTooShort)
 }
 
 /// The checks of the walk question: R, then the row asked about.

@@ -1,8 +1,9 @@
 //! The refusals: each limit from both sides, the order of the checks, and buffers left as they were.
 
 use lyra2_reference::refusal::{
-    Refusal, CHOICE_CHECKS, COST_CHECKS, LINE_READ_CHECKS, LINE_WRITE_CHECKS, PLAIN_CHECKS,
-    RECORDED_CHECKS, ROTATIONS, ROUNDS, WALK_CHECKS,
+    Refusal, BOOK_ADD_CHECKS, BOOK_CHECK_CHECKS, BOOK_FIND_CHECKS, CHOICE_CHECKS, COST_CHECKS,
+    LINE_READ_CHECKS, LINE_WRITE_CHECKS, PLAIN_CHECKS, RECORDED_CHECKS, ROTATIONS, ROUNDS,
+    WALK_CHECKS,
 };
 use lyra2_reference::{
     check, cost, derive, derive_recorded, walk, Inputs, Mixer, Parameters, Settings,
@@ -248,7 +249,10 @@ fn make_hold(call: &mut Call, check: Refusal, high: bool) {
         | Refusal::LineForm
         | Refusal::OutputTooShort
         | Refusal::Tries
-        | Refusal::NothingFits => panic!("none of the four operations has this check"),
+        | Refusal::NothingFits
+        | Refusal::DamagedBook
+        | Refusal::NoAccount
+        | Refusal::BookTooShort => panic!("none of the four operations has this check"),
     }
 }
 
@@ -389,6 +393,9 @@ fn orders_of_the_checks() {
     assert_eq!(numbers(PLAIN_CHECKS), [1, 2, 3, 10, 4, 5, 6, 13, 14, 7]);
     assert_eq!(numbers(COST_CHECKS), [1, 2, 3, 10, 4, 5, 6, 13]);
     assert_eq!(numbers(CHOICE_CHECKS), [1, 2, 3, 10, 13, 15, 16]);
+    assert_eq!(numbers(BOOK_FIND_CHECKS), [17, 18]);
+    assert_eq!(numbers(BOOK_ADD_CHECKS), [1, 3, 10, 4, 5, 6, 17, 19]);
+    assert_eq!(numbers(BOOK_CHECK_CHECKS), [2, 17, 18, 7]);
     assert_eq!(numbers(WALK_CHECKS), [5, 9]);
 }
 
@@ -402,6 +409,9 @@ fn every_refusal_is_a_check_of_some_operation() {
         LINE_READ_CHECKS,
         LINE_WRITE_CHECKS,
         CHOICE_CHECKS,
+        BOOK_FIND_CHECKS,
+        BOOK_ADD_CHECKS,
+        BOOK_CHECK_CHECKS,
     ];
     let made: BTreeSet<_> = numbers(&orders.concat()).into_iter().collect();
     assert_eq!(made, numbers(Refusal::ALL).into_iter().collect());
@@ -409,7 +419,7 @@ fn every_refusal_is_a_check_of_some_operation() {
 
 #[test]
 fn numbers_and_sentences() {
-    let all: Vec<u8> = (1..=16).collect();
+    let all: Vec<u8> = (1..=19).collect();
     assert_eq!(numbers(Refusal::ALL), all);
     let mut sentences = BTreeSet::new();
     for refusal in Refusal::ALL {
@@ -420,5 +430,5 @@ fn numbers_and_sentences() {
         assert!(sentences.insert(refusal.to_string()), "{refusal}");
     }
     assert_eq!(Refusal::from_number(0), None);
-    assert_eq!(Refusal::from_number(17), None);
+    assert_eq!(Refusal::from_number(20), None);
 }

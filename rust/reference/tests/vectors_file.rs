@@ -234,7 +234,10 @@ fn holds(check: Refusal, question: &Question) -> bool {
         | Refusal::LineForm
         | Refusal::OutputTooShort
         | Refusal::Tries
-        | Refusal::NothingFits => false,
+        | Refusal::NothingFits
+        | Refusal::DamagedBook
+        | Refusal::NoAccount
+        | Refusal::BookTooShort => false,
     }
 }
 
