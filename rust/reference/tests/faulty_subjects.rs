@@ -1,5 +1,5 @@
 //! Faulty programs, made on purpose: the run of the vectors file has to notice every fault. Those of the login lines, of
-//! the record's form and of the choice of costs stand in files of their own.
+//! the record's form, of the choice of costs and of the book of accounts stand in files of their own.
 
 mod common;
 
@@ -9,8 +9,8 @@ use lyra2_reference::refusal::{
 };
 use lyra2_reference::vectors::{run, write, Answer, Case, Coverage, Question, Reference, Subject};
 use lyra2_reference::{
-    Checked, Choice, Counts, Inputs, Limits, LineParts, LineValues, Mixer, Parameters, Recorded,
-    Refusal, Settings,
+    Account, AccountValues, Checked, Choice, Counts, Inputs, Limits, LineParts, LineValues, Mixer,
+    Parameters, Recorded, Refusal, Settings,
 };
 
 #[derive(Clone, Copy, Debug, PartialEq, Eq)]
@@ -172,6 +172,38 @@ impl Subject for Faulty {
     fn choose(&self, limits: &Limits) -> Option<Result<Choice, Refusal>> {
         Reference.choose(limits)
     }
+
+    fn book_find(&self, book: &[u8], used: u64, number: u32) -> Option<Result<u64, Refusal>> {
+        Reference.book_find(book, used, number)
+    }
+
+    fn book_add(
+        &self,
+        book: &mut [u8],
+        used: u64,
+        account: &Account,
+    ) -> Option<Result<u64, Refusal>> {
+        Reference.book_add(book, used, account)
+    }
+
+    fn book_remove(&self, book: &mut [u8], used: u64, number: u32) -> Option<Result<u64, Refusal>> {
+        Reference.book_remove(book, used, number)
+    }
+
+    fn book_check(
+        &self,
+        password: &[u8],
+        book: &[u8],
+        used: u64,
+        number: u32,
+        matrix: &mut [u64],
+    ) -> Option<Result<Checked, Refusal>> {
+        Reference.book_check(password, book, used, number, matrix)
+    }
+
+    fn book_account(&self, used_part: &[u8], place: u64) -> Option<AccountValues> {
+        Reference.book_account(used_part, place)
+    }
 }
 
 /// The cases with buffers small enough to be asked over and over.
@@ -226,7 +258,7 @@ fn no_fault_is_noticed_where_there_is_none() {
     }
 }
 
-/// A faulty program without the recorded derivation, the walk program, the login lines and the choice of costs.
+/// A faulty program without the recorded derivation, the walk program, the login lines, the choice of costs and the book.
 struct Partial(Faulty);
 
 impl Subject for Partial {
@@ -317,6 +349,15 @@ fn a_partial_program_is_held_against_what_it_has() {
             (Question::WalkProgram { .. }, _) => Coverage::Nothing,
             (Question::LineRead { .. } | Question::LineWrite { .. }, _) => Coverage::Nothing,
             (_, Answer::Refused(Refusal::RecordWords)) => Coverage::Nothing,
+            (Question::BookCheck { .. }, Answer::Checked { .. }) => Coverage::SharedPart,
+            (
+                Question::BookFind { .. }
+                | Question::BookAdd { .. }
+                | Question::BookRemove { .. }
+                | Question::BookCheck { .. }
+                | Question::BookAccount { .. },
+                _,
+            ) => Coverage::Nothing,
             (Question::DeriveRecorded { .. } | Question::Choose { .. }, _) => Coverage::SharedPart,
             _ => Coverage::Whole,
         };

@@ -37,6 +37,23 @@ const LINE_WRITE: &str =
 const CHOICE: &str = "case=1 op=choose key_len=32 password_len=31 salt_len=8 matrix_words=1200 \
     budget=1000 rho=1 tries=256 refusal=0 T=8 R=100 C=1 shortfall=0";
 
+/// A book of one account, which is read, added to the empty book, removed and checked.
+const FIND: &str = "case=1 op=book_find \
+    book=414307000000000300010008010000010203040506070aee used=23 number=7 refusal=0 place=0";
+const ADD: &str = "case=1 op=book_add \
+    book=eeeeeeeeeeeeeeeeeeeeeeeeeeeeeeeeeeeeeeeeeeeeee used=0 number=7 T=0 R=3 C=1 \
+    salt=0001020304050607 key=0a refusal=0 used_after=23 \
+    book_after=414307000000000300010008010000010203040506070a";
+const REMOVE: &str = "case=1 op=book_remove \
+    book=414307000000000300010008010000010203040506070aee used=23 number=7 refusal=0 used_after=0 \
+    book_after=0000000000000000000000000000000000000000000000ee";
+const BOOK_CHECK: &str = "case=1 op=book_check password=00 \
+    book=414307000000000300010008010000010203040506070a used=23 number=7 matrix_words=36 \
+    refusal=0 answer=no full=2 reduced=3 rounds=27 matrix_sum=66e368127e9e89a5";
+const ACCOUNT: &str = "case=1 op=book_account \
+    book=414307000000000300010008010000010203040506070a place=0 refusal=0 \
+    size=23 number=7 T=0 R=3 C=1 salt_len=8 key_len=1";
+
 /// The problem that reading a line gives, which must be laid to that line.
 fn problem(line: &str) -> String {
     let file = format!("# a comment\n\n{line}\n");
@@ -54,7 +71,8 @@ fn replaced(line: &str, part: &str, by: &str) -> String {
 #[test]
 fn the_lines_that_the_others_start_from_are_good() {
     for line in [
-        WALK, COST, REFUSED, CHECK, PROGRAM, DERIVED, NAMED, LINE_READ, LINE_WRITE, CHOICE,
+        WALK, COST, REFUSED, CHECK, PROGRAM, DERIVED, NAMED, LINE_READ, LINE_WRITE, CHOICE, FIND,
+        ADD, REMOVE, BOOK_CHECK, ACCOUNT,
     ] {
         assert!(read(format!("{line}\n").as_bytes()).is_ok(), "{line}");
     }
@@ -93,6 +111,20 @@ fn missing_fields() {
                 "tries=256",
                 "shortfall=0",
             ],
+        ),
+        (FIND, &["used=23", "number=7", "place=0"]),
+        (
+            ADD,
+            &["number=7", "T=0", "key=0a", "refusal=0", "used_after=23"],
+        ),
+        (REMOVE, &["used=23", "used_after=0"]),
+        (
+            BOOK_CHECK,
+            &["password=00", "number=7", "matrix_words=36", "answer=no"],
+        ),
+        (
+            ACCOUNT,
+            &["place=0", "refusal=0", "size=23", "salt_len=8", "key_len=1"],
         ),
     ] {
         for field in fields {
@@ -188,6 +220,17 @@ fn fields_given_twice_or_unknown() {
             format!("field {name}: unknown in a line of this kind")
         );
     }
+    // A book has no settings, and what stands at a place needs no used length.
+    for (line, field) in [(FIND, "rho=1"), (BOOK_CHECK, "rho=1"), (ACCOUNT, "used=23")] {
+        let what = replaced(line, " refusal=0", &format!(" {field} refusal=0"));
+        let (name, _) = field.split_once('=').unwrap();
+        assert_eq!(
+            what,
+            format!("field {name}: unknown in a line of this kind")
+        );
+    }
+    let refused = replaced(ADD, "refusal=0", "refusal=19");
+    assert_eq!(refused, "field used_after: unknown in a line of this kind");
     let refused = replaced(CHOICE, "refusal=0", "refusal=16");
     assert_eq!(refused, "field T: unknown in a line of this kind");
     let op = replaced(WALK, "op=walk", "op=wander");
@@ -218,6 +261,19 @@ fn bad_numbers() {
         let what = replaced(CHOICE, name, &format!("{field}=18446744073709551616"));
         let start = format!("field {field}: 18446744073709551616 is out of range");
         assert!(what.starts_with(&start), "{what}");
+    }
+    // A used length and a place may be any number, and an account's number any of 32 bits.
+    for (line, name) in [(FIND, "used=23"), (ACCOUNT, "place=0")] {
+        let (field, _) = name.split_once('=').unwrap();
+        let greatest = line.replace(name, &format!("{field}=18446744073709551615"));
+        assert!(read(format!("{greatest}\n").as_bytes()).is_ok(), "{field}");
+    }
+    for line in [FIND, ADD, REMOVE, BOOK_CHECK, ACCOUNT] {
+        let greatest = line.replace("number=7", "number=4294967295");
+        assert!(read(format!("{greatest}\n").as_bytes()).is_ok(), "{line}");
+        let what = replaced(line, "number=7", "number=4294967296");
+        let expected = "field number: 4294967296 is out of range, 0 to 4294967295";
+        assert_eq!(what, expected, "{line}");
     }
     let above = replaced(WALK, "row0=5", "row0=18446744073709551616");
     let range = "18446744073709551616 is out of range, 0 to 18446744073709551615";

@@ -144,7 +144,7 @@ fn every_operation_has_each_of_its_refusals() {
             found.entry(op).or_default().insert(refusal.number());
         }
     }
-    let expected: [(&str, BTreeSet<u8>); 8] = [
+    let expected: [(&str, BTreeSet<u8>); 12] = [
         (
             "derive_recorded",
             [1, 2, 3, 4, 5, 6, 7, 8, 10, 13, 14].into(),
@@ -156,6 +156,10 @@ fn every_operation_has_each_of_its_refusals() {
         ("line_read", [1, 3, 4, 5, 6, 10, 11, 12].into()),
         ("line_write", [1, 3, 4, 5, 6, 10, 12].into()),
         ("choose", [1, 2, 3, 10, 13, 15, 16].into()),
+        ("book_find", [17, 18].into()),
+        ("book_add", [1, 3, 4, 5, 6, 10, 17, 19].into()),
+        ("book_remove", [17, 18].into()),
+        ("book_check", [2, 7, 17, 18].into()),
     ];
     assert_eq!(found, expected.into());
 }
@@ -179,7 +183,7 @@ impl Asked {
     }
 }
 
-/// The walk has other numbers, and the login lines and the choices have tests of their own.
+/// The walk has other numbers, and the login lines, the choices and the books have tests of their own.
 fn asked(question: &Question) -> Option<Asked> {
     Some(match question {
         Question::DeriveRecorded {
@@ -206,7 +210,12 @@ fn asked(question: &Question) -> Option<Asked> {
         | Question::WalkProgram { .. }
         | Question::LineRead { .. }
         | Question::LineWrite { .. }
-        | Question::Choose { .. } => return None,
+        | Question::Choose { .. }
+        | Question::BookFind { .. }
+        | Question::BookAdd { .. }
+        | Question::BookRemove { .. }
+        | Question::BookCheck { .. }
+        | Question::BookAccount { .. } => return None,
     })
 }
 
@@ -241,7 +250,7 @@ fn holds(check: Refusal, question: &Question) -> bool {
     }
 }
 
-/// The cases of the operations other than the walk, the login lines and the choice, by operation.
+/// The cases of the operations other than the walk, the login lines, the choice and the books, by operation.
 fn cases_by_operation() -> BTreeMap<&'static str, Vec<Case>> {
     let mut cases_of: BTreeMap<_, Vec<Case>> = BTreeMap::new();
     for (_, case) in common::cases() {

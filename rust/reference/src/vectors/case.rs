@@ -1,10 +1,11 @@
 //! A case of the vectors file: a question put to an operation, and the answer to it.
 
+use crate::account::AccountValues;
 use crate::choice::{Choice, Limits};
 use crate::input::Parameters;
 use crate::refusal::{
-    Refusal, CHOICE_CHECKS, COST_CHECKS, LINE_READ_CHECKS, LINE_WRITE_CHECKS, PLAIN_CHECKS,
-    RECORDED_CHECKS, WALK_CHECKS,
+    Refusal, BOOK_ADD_CHECKS, BOOK_CHECK_CHECKS, BOOK_FIND_CHECKS, CHOICE_CHECKS, COST_CHECKS,
+    LINE_READ_CHECKS, LINE_WRITE_CHECKS, PLAIN_CHECKS, RECORDED_CHECKS, WALK_CHECKS,
 };
 use crate::settings::{Mixer, Settings};
 use crate::sponge::{Counts, State};
@@ -117,7 +118,7 @@ impl From<Settings> for NamedSettings {
     }
 }
 
-/// The values of a login line.
+/// The values of a login line, or of an account to be added to a book.
 #[derive(Clone, Debug, PartialEq, Eq)]
 pub struct LoginValues {
     /// The time cost T.
@@ -130,6 +131,15 @@ pub struct LoginValues {
     pub salt: Bytes,
     /// The key.
     pub key: Bytes,
+}
+
+/// A lent book of accounts.
+#[derive(Clone, Debug, PartialEq, Eq)]
+pub struct LentBook {
+    /// All of its bytes, used or not.
+    pub bytes: Vec<u8>,
+    /// The used length.
+    pub used: u64,
 }
 
 /// An operation and what it is given.
@@ -200,21 +210,65 @@ pub enum Question {
         /// What the choice goes by.
         limits: Limits,
     },
+    /// The search for an account.
+    BookFind {
+        /// The book.
+        book: LentBook,
+        /// The account's number.
+        number: u32,
+    },
+    /// The adding of an account.
+    BookAdd {
+        /// The book.
+        book: LentBook,
+        /// The account's number.
+        number: u32,
+        /// The rest of the account.
+        values: LoginValues,
+    },
+    /// The removing of an account.
+    BookRemove {
+        /// The book.
+        book: LentBook,
+        /// The account's number.
+        number: u32,
+    },
+    /// The check of a password against an account.
+    BookCheck {
+        /// The password.
+        password: Bytes,
+        /// The book.
+        book: LentBook,
+        /// The account's number.
+        number: u32,
+        /// Words of the lent matrix.
+        matrix_words: u64,
+    },
+    /// The reading of what stands at a place.
+    BookAccount {
+        /// The used part of a book, or any other bytes.
+        used_part: Vec<u8>,
+        /// The place.
+        place: u64,
+    },
 }
 
 impl Question {
     /// The checks of the question's operation, in their order. The walk program has none: it says by its
-    /// output that it turned an input down.
+    /// output that it turned an input down. Nor has the reading of what stands at a place.
     pub fn checks(&self) -> &'static [Refusal] {
         match self {
             Question::DeriveRecorded { .. } => RECORDED_CHECKS,
             Question::Derive { .. } | Question::Check { .. } => PLAIN_CHECKS,
             Question::Cost { .. } => COST_CHECKS,
             Question::Walk { .. } => WALK_CHECKS,
-            Question::WalkProgram { .. } => &[],
+            Question::WalkProgram { .. } | Question::BookAccount { .. } => &[],
             Question::LineRead { .. } => LINE_READ_CHECKS,
             Question::LineWrite { .. } => LINE_WRITE_CHECKS,
             Question::Choose { .. } => CHOICE_CHECKS,
+            Question::BookFind { .. } | Question::BookRemove { .. } => BOOK_FIND_CHECKS,
+            Question::BookAdd { .. } => BOOK_ADD_CHECKS,
+            Question::BookCheck { .. } => BOOK_CHECK_CHECKS,
         }
     }
 }
@@ -248,7 +302,7 @@ pub enum Answer {
         /// Checksum of the used matrix, which the call has to leave as zeros.
         matrix_sum: u64,
     },
-    /// Of the check.
+    /// Of the check, of a stored key or of a password against an account.
     Checked {
         /// Whether the stored key is the right one.
         matches: bool,
@@ -275,6 +329,20 @@ pub enum Answer {
     },
     /// Of the choice of costs.
     Chosen(Choice),
+    /// Of the search for an account.
+    Found {
+        /// The place of its mark.
+        place: u64,
+    },
+    /// Of the adding or the removing of an account.
+    Changed {
+        /// The new used length.
+        used_after: u64,
+        /// All bytes of the book after the call.
+        book_after: Vec<u8>,
+    },
+    /// Of the reading of what stands at a place.
+    Account(AccountValues),
 }
 
 /// The walk program's standard output.

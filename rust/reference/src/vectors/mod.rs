@@ -5,6 +5,8 @@
 //! and calls [`run::check_case`] on each case.
 
 mod accepted;
+mod books;
+mod books_refused;
 pub mod case;
 pub mod checksum;
 mod choices;
@@ -13,17 +15,19 @@ mod lent;
 mod lines;
 mod mixer;
 pub mod random;
+pub mod random_book;
 pub mod random_choice;
 pub mod random_line;
 pub mod read;
 mod record;
 mod refused;
 pub mod run;
+mod run_book;
 mod settings;
 pub mod subject;
 pub mod write;
 
-pub use case::{Answer, Bytes, Case, Given, LoginValues, NamedSettings, Question};
+pub use case::{Answer, Bytes, Case, Given, LentBook, LoginValues, NamedSettings, Question};
 pub use read::{read, Problem};
 pub use run::Coverage;
 pub use subject::{Reference, Subject};
@@ -49,6 +53,7 @@ pub fn chosen_questions() -> Vec<Question> {
         record::questions(),
         refused::of_records(),
         choices::questions(),
+        books::questions(),
     ]
     .concat()
 }

@@ -1,10 +1,12 @@
 //! Reading a vectors file: every line is a case, a comment or empty.
 
 use super::case::{
-    Answer, Bytes, Case, Given, LoginValues, NamedSettings, Output, Question, LISTED_OUTPUT_BYTES,
+    Answer, Bytes, Case, Given, LentBook, LoginValues, NamedSettings, Output, Question,
+    LISTED_OUTPUT_BYTES,
 };
 use super::fields::{unknown_value, Fields, Trouble};
 use super::write::mixer_name;
+use crate::account::AccountValues;
 use crate::choice::{Choice, Limits};
 use crate::input::Parameters;
 use crate::refusal::Refusal;
@@ -142,19 +144,66 @@ fn read_question(fields: &mut Fields) -> Result<Question, Trouble> {
             key_room: fields.number("key_room", 0..=MOST_KEY_BYTES)?,
         },
         "line_write" => Question::LineWrite {
-            values: LoginValues {
-                t: fields.any_number("T")?,
-                r: fields.any_number("R")?,
-                c: fields.any_number("C")?,
-                salt: fields.bytes("salt", "salt_zeros")?,
-                key: fields.bytes("key", "key_zeros")?,
-            },
+            values: read_values(fields)?,
             line_room: fields.number("line_room", 0..=MOST_KEY_BYTES)?,
         },
         "choose" => Question::Choose {
             limits: read_limits(fields)?,
         },
+        op => return read_book_question(fields, op),
+    })
+}
+
+fn read_book_question(fields: &mut Fields, op: &str) -> Result<Question, Trouble> {
+    Ok(match op {
+        "book_find" => Question::BookFind {
+            book: read_book(fields)?,
+            number: read_account_number(fields)?,
+        },
+        "book_add" => Question::BookAdd {
+            book: read_book(fields)?,
+            number: read_account_number(fields)?,
+            values: read_values(fields)?,
+        },
+        "book_remove" => Question::BookRemove {
+            book: read_book(fields)?,
+            number: read_account_number(fields)?,
+        },
+        "book_check" => Question::BookCheck {
+            password: fields.bytes("password", "password_zeros")?,
+            book: read_book(fields)?,
+            number: read_account_number(fields)?,
+            matrix_words: fields.number("matrix_words", 0..=MOST_WORDS)?,
+        },
+        "book_account" => Question::BookAccount {
+            used_part: fields.hex("book")?,
+            place: fields.any_number("place")?,
+        },
         other => return Err(unknown_value("op", other)),
+    })
+}
+
+fn read_book(fields: &mut Fields) -> Result<LentBook, Trouble> {
+    Ok(LentBook {
+        bytes: fields.hex("book")?,
+        used: fields.any_number("used")?,
+    })
+}
+
+/// An account's number is never refused, since no other has room in its four bytes.
+fn read_account_number(fields: &mut Fields) -> Result<u32, Trouble> {
+    let number = fields.number("number", 0..=u64::from(u32::MAX))?;
+    Ok(number as u32)
+}
+
+/// The values from which a line is written or an account added.
+fn read_values(fields: &mut Fields) -> Result<LoginValues, Trouble> {
+    Ok(LoginValues {
+        t: fields.any_number("T")?,
+        r: fields.any_number("R")?,
+        c: fields.any_number("C")?,
+        salt: fields.bytes("salt", "salt_zeros")?,
+        key: fields.bytes("key", "key_zeros")?,
     })
 }
 
@@ -227,7 +276,7 @@ fn read_answer(fields: &mut Fields, question: &Question) -> Result<Answer, Troub
             counts: read_counts(fields)?,
             matrix_sum: fields.word("matrix_sum")?,
         },
-        Question::Check { .. } => Answer::Checked {
+        Question::Check { .. } | Question::BookCheck { .. } => Answer::Checked {
             matches: fields.either("answer", "yes", "no")?,
             counts: read_counts(fields)?,
             matrix_sum: fields.word("matrix_sum")?,
@@ -251,6 +300,22 @@ fn read_answer(fields: &mut Fields, question: &Question) -> Result<Answer, Troub
             r: fields.any_number("R")?,
             c: fields.any_number("C")?,
             shortfall: fields.any_number("shortfall")?,
+        }),
+        Question::BookFind { .. } => Answer::Found {
+            place: fields.any_number("place")?,
+        },
+        Question::BookAdd { .. } | Question::BookRemove { .. } => Answer::Changed {
+            used_after: fields.any_number("used_after")?,
+            book_after: fields.hex("book_after")?,
+        },
+        Question::BookAccount { .. } => Answer::Account(AccountValues {
+            size: fields.any_number("size")?,
+            number: read_account_number(fields)?,
+            t: fields.any_number("T")?,
+            r: fields.any_number("R")?,
+            c: fields.any_number("C")?,
+            salt_len: fields.any_number("salt_len")?,
+            key_len: fields.any_number("key_len")?,
         }),
     })
 }

@@ -3,7 +3,7 @@
 use super::case::{Answer, Bytes, Case, Given, LoginValues, Output, Question, LISTED_OUTPUT_BYTES};
 use super::fields::short;
 use super::subject::Subject;
-use super::{checksum, lent, write};
+use super::{checksum, lent, run_book, write};
 use crate::choice::{Choice, Limits, CHOSEN_TIME_COSTS, SMALLEST_COSTS};
 use crate::refusal::Refusal;
 use crate::settings::Settings;
@@ -28,7 +28,10 @@ pub fn ask(subject: &impl Subject, question: &Question) -> Result<Answer, String
 }
 
 /// Puts a question; None says that the program lacks the operation.
-fn ask_if_offered(subject: &impl Subject, question: &Question) -> Result<Option<Answer>, String> {
+pub(super) fn ask_if_offered(
+    subject: &impl Subject,
+    question: &Question,
+) -> Result<Option<Answer>, String> {
     let answer = match question {
         Question::DeriveRecorded {
             given,
@@ -57,6 +60,11 @@ fn ask_if_offered(subject: &impl Subject, question: &Question) -> Result<Option<
             let chosen = subject.choose(limits);
             return Ok(chosen.map(|chosen| chosen.map_or_else(Answer::Refused, Answer::Chosen)));
         }
+        Question::BookFind { .. }
+        | Question::BookAdd { .. }
+        | Question::BookRemove { .. }
+        | Question::BookCheck { .. }
+        | Question::BookAccount { .. } => return run_book::ask(subject, question),
     };
     Ok(Some(answer))
 }
@@ -253,8 +261,8 @@ pub fn check_case(subject: &impl Subject, case: &Case) -> Result<Coverage, Strin
 }
 
 /// Asks the operations that share a question's inputs for what they share of its answer, and says whether there was
-/// anything to ask: those beside a recorded derivation, the inverse of reading or writing a login line, and the cost of what
-/// was chosen.
+/// anything to ask: those beside a recorded derivation, the inverse of reading or writing a login line, the cost of what
+/// was chosen, and what a book tells of an account.
 pub fn agree(subject: &impl Subject, question: &Question, answer: &Answer) -> Result<bool, String> {
     let (given, key_len) = match (question, answer) {
         (Question::DeriveRecorded { given, key_len, .. }, _) => (given, key_len),
@@ -267,7 +275,7 @@ pub fn agree(subject: &impl Subject, question: &Question, answer: &Answer) -> Re
         (Question::Choose { limits }, _) => {
             return agree_on_choice(subject, limits, answer).map(|()| true)
         }
-        _ => return Ok(false),
+        _ => return run_book::agree(subject, question, answer),
     };
     match answer {
         Answer::Recorded { key, counts, .. } => {
@@ -406,7 +414,7 @@ fn expect(subject: &impl Subject, question: &Question, expected: &Answer) -> Res
 }
 
 /// The same where the program may lack the operation; says whether it has it.
-fn expect_if_offered(
+pub(super) fn expect_if_offered(
     subject: &impl Subject,
     question: &Question,
     expected: &Answer,

@@ -1,13 +1,14 @@
 //! The program that a vectors file is held against.
 
 use crate::{
-    Checked, Choice, Counts, Inputs, Limits, LineParts, LineValues, Parameters, Recorded, Refusal,
+    Account, AccountValues, Checked, Choice, Counts, Inputs, Limits, LineParts, LineValues,
+    Parameters, Recorded, Refusal,
 };
 
 /// The operations of an implementation of Lyra2, as document 01 opens them to callers.
 ///
-/// A program may lack the recorded derivation, the walk program, the login lines or the choice of costs; it then leaves
-/// their default, None.
+/// A program may lack the recorded derivation, the walk program, the login lines, the choice of costs or the book of
+/// accounts; it then leaves their default, None.
 pub trait Subject {
     /// The recorded derivation.
     fn derive_recorded(
@@ -60,6 +61,48 @@ pub trait Subject {
 
     /// The choice of costs.
     fn choose(&self, _limits: &Limits) -> Option<Result<Choice, Refusal>> {
+        None
+    }
+
+    /// The search for an account; returns its place.
+    fn book_find(&self, _book: &[u8], _used: u64, _number: u32) -> Option<Result<u64, Refusal>> {
+        None
+    }
+
+    /// The adding of an account; returns the new used length.
+    fn book_add(
+        &self,
+        _book: &mut [u8],
+        _used: u64,
+        _account: &Account,
+    ) -> Option<Result<u64, Refusal>> {
+        None
+    }
+
+    /// The removing of an account; returns the new used length.
+    fn book_remove(
+        &self,
+        _book: &mut [u8],
+        _used: u64,
+        _number: u32,
+    ) -> Option<Result<u64, Refusal>> {
+        None
+    }
+
+    /// The check of a password against an account.
+    fn book_check(
+        &self,
+        _password: &[u8],
+        _book: &[u8],
+        _used: u64,
+        _number: u32,
+        _matrix: &mut [u64],
+    ) -> Option<Result<Checked, Refusal>> {
+        None
+    }
+
+    /// The reading of what stands at a place.
+    fn book_account(&self, _used_part: &[u8], _place: u64) -> Option<AccountValues> {
         None
     }
 }
@@ -123,5 +166,37 @@ impl Subject for Reference {
 
     fn choose(&self, limits: &Limits) -> Option<Result<Choice, Refusal>> {
         Some(crate::choose(limits))
+    }
+
+    fn book_find(&self, book: &[u8], used: u64, number: u32) -> Option<Result<u64, Refusal>> {
+        Some(crate::book_find(book, used, number))
+    }
+
+    fn book_add(
+        &self,
+        book: &mut [u8],
+        used: u64,
+        account: &Account,
+    ) -> Option<Result<u64, Refusal>> {
+        Some(crate::book_add(book, used, account))
+    }
+
+    fn book_remove(&self, book: &mut [u8], used: u64, number: u32) -> Option<Result<u64, Refusal>> {
+        Some(crate::book_remove(book, used, number))
+    }
+
+    fn book_check(
+        &self,
+        password: &[u8],
+        book: &[u8],
+        used: u64,
+        number: u32,
+        matrix: &mut [u64],
+    ) -> Option<Result<Checked, Refusal>> {
+        Some(crate::book_check(password, book, used, number, matrix))
+    }
+
+    fn book_account(&self, used_part: &[u8], place: u64) -> Option<AccountValues> {
+        Some(crate::book_account(used_part, place))
     }
 }

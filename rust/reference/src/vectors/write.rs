@@ -1,6 +1,7 @@
 //! Writing a case as a line of text.
 
-use super::case::{Answer, Bytes, Case, Given, LoginValues, NamedSettings, Question};
+use super::case::{Answer, Bytes, Case, Given, LentBook, LoginValues, NamedSettings, Question};
+use crate::account::AccountValues;
 use crate::choice::{Choice, Limits};
 use crate::settings::Mixer;
 use crate::sponge::Counts;
@@ -36,6 +37,11 @@ pub fn op(question: &Question) -> &'static str {
         Question::LineRead { .. } => "line_read",
         Question::LineWrite { .. } => "line_write",
         Question::Choose { .. } => "choose",
+        Question::BookFind { .. } => "book_find",
+        Question::BookAdd { .. } => "book_add",
+        Question::BookRemove { .. } => "book_remove",
+        Question::BookCheck { .. } => "book_check",
+        Question::BookAccount { .. } => "book_account",
     }
 }
 
@@ -87,7 +93,47 @@ fn question(question: &Question) -> Vec<Field> {
             [login_values(values), line_room].concat()
         }
         Question::Choose { limits } => choice_limits(limits),
+        Question::BookFind { .. }
+        | Question::BookAdd { .. }
+        | Question::BookRemove { .. }
+        | Question::BookCheck { .. }
+        | Question::BookAccount { .. } => book_question(question),
     }
+}
+
+fn book_question(question: &Question) -> Vec<Field> {
+    match question {
+        Question::BookFind { book, number } | Question::BookRemove { book, number } => {
+            book_and_number(book, *number)
+        }
+        Question::BookAdd {
+            book,
+            number,
+            values,
+        } => [book_and_number(book, *number), login_values(values)].concat(),
+        Question::BookCheck {
+            password,
+            book,
+            number,
+            matrix_words,
+        } => {
+            let password = vec![bytes("password", "password_zeros", password)];
+            let matrix_words = vec![("matrix_words", matrix_words.to_string())];
+            [password, book_and_number(book, *number), matrix_words].concat()
+        }
+        Question::BookAccount { used_part, place } => {
+            vec![("book", hex(used_part)), ("place", place.to_string())]
+        }
+        _ => Vec::new(),
+    }
+}
+
+fn book_and_number(book: &LentBook, number: u32) -> Vec<Field> {
+    vec![
+        ("book", hex(&book.bytes)),
+        ("used", book.used.to_string()),
+        ("number", number.to_string()),
+    ]
 }
 
 /// The name of a mixer.
@@ -183,7 +229,28 @@ pub fn answer(answer: &Answer) -> Vec<Field> {
         Answer::LineRead(values) => [accepted, login_values(values)].concat(),
         Answer::LineWritten { line } => [accepted, vec![("line", hex(line))]].concat(),
         Answer::Chosen(chosen) => [accepted, choice(chosen)].concat(),
+        Answer::Found { place } => [accepted, vec![("place", place.to_string())]].concat(),
+        Answer::Changed {
+            used_after,
+            book_after,
+        } => {
+            let used_after = ("used_after", used_after.to_string());
+            [accepted, vec![used_after, ("book_after", hex(book_after))]].concat()
+        }
+        Answer::Account(values) => [accepted, account(values)].concat(),
     }
+}
+
+fn account(values: &AccountValues) -> Vec<Field> {
+    vec![
+        ("size", values.size.to_string()),
+        ("number", values.number.to_string()),
+        ("T", values.t.to_string()),
+        ("R", values.r.to_string()),
+        ("C", values.c.to_string()),
+        ("salt_len", values.salt_len.to_string()),
+        ("key_len", values.key_len.to_string()),
+    ]
 }
 
 fn recorded(answer: &Answer) -> Vec<Field> {
