@@ -2,6 +2,7 @@
 //!
 //! A seed stands for one comparison, so a failure is repeated by its seed alone.
 
+use crate::books;
 use crate::choices;
 use crate::guarded::{byte, word, Guarded};
 use crate::lines;
@@ -23,6 +24,8 @@ pub struct Compared {
     pub lines: Vec<Result<(), Refusal>>,
     /// What both programs chose, or with what they refused to choose.
     pub choices: Vec<Result<Choice, Refusal>>,
+    /// What both programs answered to the calls on books of accounts: no refusal, or one.
+    pub books: Vec<Result<(), Refusal>>,
 }
 
 /// The sizes of a call.
@@ -57,8 +60,13 @@ struct End {
 const LINES: usize = 4;
 /// Choices of costs of a seed.
 const CHOICES: usize = 4;
+/// Books of a seed that are asked one question each.
+const BOOKS: usize = 4;
+/// Calls on the one book of a seed that goes from call to call.
+const BOOK_STEPS: u64 = 8;
 
-/// Makes the comparison of a seed: both derivations, the cost question, three checks, some login lines and some choices.
+/// Makes the comparison of a seed: both derivations, the cost question, three checks, some login lines, some choices and some
+/// books. What a later request adds is drawn last, so that all else of a seed is what it was.
 pub fn compare(subject: &impl Subject, seed: u64) -> Result<Compared, String> {
     let mut random = Random::new(seed);
     let mut sizes = draw_sizes(&mut random);
@@ -82,12 +90,17 @@ pub fn compare(subject: &impl Subject, seed: u64) -> Result<Compared, String> {
     let lines = (0..LINES).map(|_| lines::compare_question(subject, &mut random));
     let lines = lines.collect::<Result<_, _>>()?;
     let choices = (0..CHOICES).map(|_| choices::compare_random(subject, &mut random));
+    let choices = choices.collect::<Result<_, _>>()?;
+    let books = (0..BOOKS).map(|_| books::compare_question(subject, &mut random));
+    let mut books = books.collect::<Result<Vec<_>, _>>()?;
+    books.extend(books::compare_history(subject, BOOK_STEPS, &mut random)?);
     Ok(Compared {
         sizes: sizes.given,
         settings: sizes.settings,
         answer: end.recorded,
         lines,
-        choices: choices.collect::<Result<_, _>>()?,
+        choices,
+        books,
     })
 }
 

@@ -1,11 +1,13 @@
 //! The proved derivation beside the second program.
 //!
 //! [`Proved`] gives the C interface the form that the vectors file and the second program share, [`compare`] holds it
-//! against that program on random inputs, [`lines`] on login lines, and [`choices`] on choices of costs.
+//! against that program on random inputs, [`lines`] on login lines, [`choices`] on choices of costs, and [`books`] on
+//! books of accounts.
 
 #![forbid(unsafe_code)]
 #![warn(missing_docs)]
 
+pub mod books;
 pub mod choices;
 pub mod compare;
 pub mod guarded;
@@ -13,8 +15,8 @@ pub mod lines;
 
 use lyra2_reference::vectors::Subject;
 use lyra2_reference::{
-    Checked, Choice, Counts, Inputs, Limits, LineParts, LineValues, Mixer, Parameters, Recorded,
-    Refusal,
+    Account, AccountValues, Checked, Choice, Counts, Inputs, Limits, LineParts, LineValues, Mixer,
+    Parameters, Recorded, Refusal,
 };
 
 /// What the places for an answer hold before a call; no accepted call gives such a number.
@@ -105,16 +107,7 @@ impl Subject for Proved {
         let mut costs = [BEFORE; 3];
         let mut same = BEFORE as u32;
         let number = lyra2_sys::check(input(inputs), stored, matrix, &mut same, &mut costs);
-        if number != 0 {
-            assert_eq!(same, 0, "the answer of a refused check");
-        }
-        let counts = counts(number, costs)?;
-        let matches = match same {
-            0 => false,
-            1 => true,
-            other => panic!("the check answered {other}, neither yes nor no"),
-        };
-        Ok(Checked { matches, counts })
+        checked(number, same, costs)
     }
 
     fn cost(&self, given: &Parameters, rho: u64) -> Result<Counts, Refusal> {
@@ -185,6 +178,103 @@ impl Subject for Proved {
         let [t, r, c, shortfall] = values.map(|value| value as u64);
         Some(accepted(number).map(|()| Choice { t, r, c, shortfall }))
     }
+
+    fn book_find(&self, book: &[u8], used: u64, number: u32) -> Option<Result<u64, Refusal>> {
+        let mut place = BEFORE as usize;
+        let answer = lyra2_sys::book_find(lent(book, used), number, &mut place);
+        Some(book_number(answer, place))
+    }
+
+    fn book_add(
+        &self,
+        book: &mut [u8],
+        used: u64,
+        account: &Account,
+    ) -> Option<Result<u64, Refusal>> {
+        let parts = lyra2_sys::LineParts {
+            time: size(account.t),
+            rows: size(account.r),
+            columns: size(account.c),
+            salt: account.salt,
+            key: account.key,
+        };
+        let mut used_after = BEFORE as usize;
+        let answer = lyra2_sys::book_add(book, size(used), account.number, parts, &mut used_after);
+        Some(book_number(answer, used_after))
+    }
+
+    fn book_remove(&self, book: &mut [u8], used: u64, number: u32) -> Option<Result<u64, Refusal>> {
+        let mut used_after = BEFORE as usize;
+        let answer = lyra2_sys::book_remove(book, size(used), number, &mut used_after);
+        Some(book_number(answer, used_after))
+    }
+
+    fn book_check(
+        &self,
+        password: &[u8],
+        book: &[u8],
+        used: u64,
+        number: u32,
+        matrix: &mut [u64],
+    ) -> Option<Result<Checked, Refusal>> {
+        let mut costs = [BEFORE; 3];
+        let mut same = BEFORE as u32;
+        let book = lent(book, used);
+        let answer = lyra2_sys::book_check(password, book, number, matrix, &mut same, &mut costs);
+        Some(checked(answer, same, costs))
+    }
+
+    fn book_account(&self, used_part: &[u8], place: u64) -> Option<AccountValues> {
+        // The six values stand between others, which show whether a call writes beside them.
+        let mut places = [[BEFORE as usize; 6]; 3];
+        let bytes = lyra2_sys::book_account(used_part, size(place), &mut places[1]);
+        let [before, values, after] = places;
+        assert_eq!(
+            [before, after],
+            [[BEFORE as usize; 6]; 2],
+            "beside the values of an account"
+        );
+        let [number, t, r, c, salt_len, key_len] = values.map(|value| value as u64);
+        Some(AccountValues {
+            size: bytes as u64,
+            number: u32::try_from(number).expect("an account's number has 32 bits"),
+            t,
+            r,
+            c,
+            salt_len,
+            key_len,
+        })
+    }
+}
+
+/// A book that is only read, as the library takes it.
+fn lent(bytes: &[u8], used: u64) -> lyra2_sys::Book<'_> {
+    lyra2_sys::Book {
+        bytes,
+        used: size(used),
+    }
+}
+
+/// The place or the used length of an accepted call; that of a refused one must be zero.
+fn book_number(answer: u32, number: usize) -> Result<u64, Refusal> {
+    if answer != 0 {
+        assert_eq!(number, 0, "the place or used length of a refused call");
+    }
+    accepted(answer).map(|()| number as u64)
+}
+
+/// The answer of a check; that of a refused one must be no, with counts of zero.
+fn checked(number: u32, same: u32, costs: lyra2_sys::Counts) -> Result<Checked, Refusal> {
+    if number != 0 {
+        assert_eq!(same, 0, "the answer of a refused check");
+    }
+    let counts = counts(number, costs)?;
+    let matches = match same {
+        0 => false,
+        1 => true,
+        other => panic!("the check answered {other}, neither yes nor no"),
+    };
+    Ok(Checked { matches, counts })
 }
 
 /// The answer that a number stands for.

@@ -25,6 +25,8 @@ struct Met {
     /// Of login lines; 0 is an accepted one.
     lines: BTreeSet<u8>,
     choices: MetChoices,
+    /// Of calls on books; 0 is an accepted one.
+    books: BTreeSet<u8>,
 }
 
 /// What was chosen, and with which numbers choices were refused; 0 is an accepted one.
@@ -62,6 +64,7 @@ fn every_length_setting_and_refusal_is_met_and_the_two_programs_agree() {
         let compared = compare(&Proved, seed)
             .unwrap_or_else(|what| panic!("{what}; `compare-random {seed} 1` repeats it"));
         met.lines.extend(compared.lines.iter().map(number));
+        met.books.extend(compared.books.iter().map(number));
         let choices = compared.choices.into_iter();
         choices.for_each(|answer| met.choices.add(answer));
         let Settings { rho, omega, mixer } = compared.settings;
@@ -95,6 +98,7 @@ fn every_length_setting_and_refusal_is_met_and_the_two_programs_agree() {
     let rows = &met.choices.rows;
     assert!([3, 4, 16_383, 16_384].iter().all(|r| rows.contains(r)));
     assert!(met.choices.short >= 10_000, "{}", met.choices.short);
+    assert_eq!(met.books, [0, 1, 2, 3, 4, 5, 6, 7, 10, 17, 18, 19].into());
 }
 
 /// The second program's own questions, recorded derivations of larger matrices than the comparisons have.

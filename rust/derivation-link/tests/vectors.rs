@@ -4,7 +4,7 @@
 //! share its key and counts; the first two have to leave zeros where it has its end matrix.
 
 use derivation_link::Proved;
-use lyra2_reference::vectors::{read, run, Answer, Case, Coverage, Question};
+use lyra2_reference::vectors::{read, run, write, Answer, Case, Coverage, Question};
 use lyra2_reference::Refusal;
 
 const FILE: &str = concat!(env!("CARGO_MANIFEST_DIR"), "/../../vectors/lyra2.txt");
@@ -104,6 +104,20 @@ fn login_lines() {
 fn choices() {
     let wanted = |case: &Case| matches!(case.question, Question::Choose { .. });
     assert!(run_lines(wanted) >= 500);
+}
+
+#[test]
+fn books() {
+    for (op, least) in [
+        ("book_find", 200),
+        ("book_add", 200),
+        ("book_remove", 60),
+        ("book_check", 60),
+        ("book_account", 100),
+    ] {
+        let count = run_lines(|case| write::op(&case.question) == op);
+        assert!(count >= least, "{op}: {count}");
+    }
 }
 
 #[test]

@@ -154,6 +154,12 @@ fn is_wanted(case: &Case) -> bool {
         | Question::Choose { .. } => true,
         // The walk program has a test of its own.
         Question::WalkProgram { .. } => false,
+        // `Safe` keeps no books yet; derivation-link's tests put these lines to the library.
+        Question::BookFind { .. }
+        | Question::BookAdd { .. }
+        | Question::BookRemove { .. }
+        | Question::BookCheck { .. }
+        | Question::BookAccount { .. } => false,
     }
 }
 
@@ -167,7 +173,7 @@ fn every_line_but_the_largest_matrices_and_the_walk_program() {
         let outcome = run::check_case(&Safe, case);
         assert_eq!(outcome, Ok(Coverage::Whole), "line {line}");
     }
-    assert_eq!(all - lines.len(), 77 + 8);
+    assert_eq!(all - lines.len(), 77 + 8 + 806);
     assert!(lines.len() >= 4900);
 }
 
