@@ -1,4 +1,5 @@
-//! Faulty programs, made on purpose: the random comparison has to notice every fault.
+//! Faulty programs, made on purpose: the random comparison has to notice every fault. Those that keep books of accounts stand in
+//! a file of their own.
 
 use derivation_link::compare::compare;
 use derivation_link::Proved;
@@ -6,12 +7,13 @@ use lyra2_reference::record;
 use lyra2_reference::refusal::{check_record, ROTATIONS, ROUNDS};
 use lyra2_reference::vectors::Subject;
 use lyra2_reference::{
-    Checked, Choice, Counts, Inputs, Limits, LineParts, LineValues, Mixer, Parameters, Recorded,
-    Refusal, Settings,
+    Account, AccountValues, Checked, Choice, Counts, Inputs, Limits, LineParts, LineValues, Mixer,
+    Parameters, Recorded, Refusal, Settings,
 };
 
 #[derive(Clone, Copy, Debug, PartialEq, Eq)]
 enum Fault {
+    Nothing,
     LastKeyByte,
     FirstMatrixWord,
     LastMatrixWord,
@@ -554,12 +556,53 @@ impl Subject for Faulty {
             (Err(due), _) => Some(Err(self.spoil_choice_refusal(limits, due))),
         }
     }
+
+    fn book_find(&self, book: &[u8], used: u64, number: u32) -> Option<Result<u64, Refusal>> {
+        Proved.book_find(book, used, number)
+    }
+
+    fn book_add(
+        &self,
+        book: &mut [u8],
+        used: u64,
+        account: &Account,
+    ) -> Option<Result<u64, Refusal>> {
+        Proved.book_add(book, used, account)
+    }
+
+    fn book_remove(&self, book: &mut [u8], used: u64, number: u32) -> Option<Result<u64, Refusal>> {
+        Proved.book_remove(book, used, number)
+    }
+
+    fn book_check(
+        &self,
+        password: &[u8],
+        book: &[u8],
+        used: u64,
+        number: u32,
+        matrix: &mut [u64],
+    ) -> Option<Result<Checked, Refusal>> {
+        Proved.book_check(password, book, used, number, matrix)
+    }
+
+    fn book_account(&self, used_part: &[u8], place: u64) -> Option<AccountValues> {
+        Proved.book_account(used_part, place)
+    }
 }
 
 /// Clears the byte at a place, if there is one.
 fn clear(bytes: &mut [u8], place: u64) {
     if let Some(byte) = bytes.get_mut(place as usize) {
         *byte = 0;
+    }
+}
+
+/// Shows that below nothing but the fault is noticed.
+#[test]
+fn no_fault_is_noticed_where_there_is_none() {
+    for seed in 0..1000 {
+        let compared = compare(&Faulty(Nothing), seed);
+        assert!(compared.is_ok(), "seed {seed}: {compared:?}");
     }
 }
 

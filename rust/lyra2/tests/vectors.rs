@@ -173,7 +173,7 @@ fn every_line_but_the_largest_matrices_and_the_walk_program() {
         let outcome = run::check_case(&Safe, case);
         assert_eq!(outcome, Ok(Coverage::Whole), "line {line}");
     }
-    assert_eq!(all - lines.len(), 77 + 8 + 806);
+    assert_eq!(all - lines.len(), 77 + 8 + 807);
     assert!(lines.len() >= 4900);
 }
 

@@ -12,7 +12,11 @@ const MOST_MATRIX_WORDS: u64 = 20_000;
 
 /// A question to any of the operations.
 pub fn question(random: &mut Random) -> Question {
-    let password_len = random.mostly(0, 40, 1026, 10);
+    let password_len = match random.between(1, 20) {
+        1 => random.one_of(&[1023, 1024, 1025, 1026]),
+        2 => random.between(0, 1024),
+        _ => random.between(0, 40),
+    };
     let password = random.bytes(password_len);
     let mut book = book(random, &password);
     if random.once_in(4) {
@@ -38,7 +42,7 @@ pub fn number(random: &mut Random) -> u32 {
     random.one_of(&all)
 }
 
-/// The rest of an account; seldom one of the values is outside of its limits.
+/// The rest of an account; seldom some of the values are outside of their limits.
 pub fn values(random: &mut Random) -> LoginValues {
     let salt_len = random.mostly(8, 12, 64, 8);
     let key_len = random.mostly(1, 8, 200, 8);
@@ -50,7 +54,9 @@ pub fn values(random: &mut Random) -> LoginValues {
         key: Bytes::Listed(random.bytes(key_len)),
     };
     if random.once_in(12) {
-        spoil(random, &mut values);
+        for _ in 0..random.between(1, 3) {
+            spoil(random, &mut values);
+        }
     }
     values
 }
@@ -115,6 +121,8 @@ pub fn damage(random: &mut Random, book: &mut LentBook) {
     let len = book.bytes.len() as u64;
     match random.between(1, 5) {
         1 => book.used = random.between(0, len),
+        // Past the slice, though not if cut to 32 bits.
+        2 if random.once_in(2) => book.used += 1 << 32,
         2 => book.used = len + (random.word() >> random.between(1, 63)),
         3 => {
             let place = random.between(0, len.saturating_sub(HEAD_BYTES)) as usize;
@@ -161,9 +169,10 @@ fn check(random: &mut Random, password: Vec<u8>, book: LentBook, number: u32) ->
 fn at_place(random: &mut Random, book: LentBook, number: u32) -> Question {
     let used = book.used.min(book.bytes.len() as u64);
     let found = crate::book_find(&book.bytes, book.used, number);
-    let place = match random.between(1, 4) {
+    let place = match random.between(1, 6) {
         1 => random.between(0, used),
         2 => random.word() >> random.between(0, 63),
+        3 => found.unwrap_or(0) + (1 << 32),
         _ => found.unwrap_or(0),
     };
     Question::BookAccount {
