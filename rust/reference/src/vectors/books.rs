@@ -170,7 +170,7 @@ fn numbers() -> Vec<Question> {
         let others = [&all[..place], &all[place + 1..]].concat();
         questions.push(find(&book_of(&others, 0), *number));
     }
-    for number in [1, u32::MAX, 0x0403_0201] {
+    for number in [0, u32::MAX, 0x0403_0201] {
         let book = book_of(&all, 3);
         questions.push(remove(&book, number));
         questions.push(add(&book, &account(number, [2, 4, 2], [9, 2])));
