@@ -263,6 +263,12 @@ fn cut_books() {
     for used in [96, 97, 1 << 32, MAX] {
         assert_eq!(book_find(&start, used, 7), Err(Refusal::DamagedBook));
     }
+    // Also where all of the slice is accounts.
+    let full = &start[..88];
+    assert_eq!(book_find(full, 88, 7), Ok(0));
+    for used in [89, 1 << 32 | 88, MAX] {
+        assert_eq!(book_find(full, used, 7), Err(Refusal::DamagedBook));
+    }
     // The last bytes are no account.
     assert_eq!(book_find(&start, 95, 7), Err(Refusal::DamagedBook));
 }
