@@ -228,10 +228,10 @@ pub fn compare_question(
     subject: &impl Subject,
     random: &mut Random,
 ) -> Result<Result<(), Refusal>, String> {
-    match random_book::question(random) {
+    Ok(match random_book::question(random) {
         Question::BookFind { book, number } => {
-            let answer = Book::from(book).find(subject, number, random)?;
-            Ok(answer.map(drop))
+            let book = Book::from(book);
+            book.find(subject, number, random)?.map(drop)
         }
         Question::BookAdd {
             book,
@@ -240,11 +240,11 @@ pub fn compare_question(
         } => {
             let mut book = Book::from(book);
             let add = |account: &Account| book.add(subject, account, random);
-            Ok(with_account(number, &values, add)?.map(drop))
+            with_account(number, &values, add)?.map(drop)
         }
         Question::BookRemove { book, number } => {
-            let answer = Book::from(book).remove(subject, number, random)?;
-            Ok(answer.map(drop))
+            let mut book = Book::from(book);
+            book.remove(subject, number, random)?.map(drop)
         }
         Question::BookCheck {
             password,
@@ -252,19 +252,18 @@ pub fn compare_question(
             number,
             matrix_words,
         } => {
-            let book = Book::from(book);
-            let password = password.to_vec();
+            let (book, password) = (Book::from(book), password.to_vec());
             let answer = book.check(subject, &password, number, matrix_words, random)?;
-            Ok(answer.map(drop))
+            answer.map(drop)
         }
         Question::BookAccount { used_part, place } => {
             let used = used_part.len() as u64;
             let bytes = used_part;
-            Book { bytes, used }.account(subject, place, random)?;
-            Ok(Ok(()))
+            let told = Book { bytes, used }.account(subject, place, random);
+            told.map(|_| Ok(()))?
         }
-        other => Err(format!("{other:?} is no question about a book")),
-    }
+        other => return Err(format!("{other:?} is no question about a book")),
+    })
 }
 
 /// Takes an empty book of random bytes through so many calls, and returns what they answered: many are refused. After

@@ -100,34 +100,37 @@ impl Faulty {
         };
         let before = book.to_vec();
         let answer = call(book, used)?.map_err(|due| self.refusal(due));
-        let after = match answer {
-            Ok(after) => after as usize,
-            Err(_) if self.0 == BookOnRefusal => {
-                book.iter_mut().take(1).for_each(|byte| *byte ^= 1);
-                return Some(answer);
+        match answer {
+            Ok(after) => Some(Ok(self.spoil_book(&before, used, book, after))),
+            Err(_) => {
+                if self.0 == BookOnRefusal {
+                    book.iter_mut().take(1).for_each(|byte| *byte ^= 1);
+                }
+                Some(answer)
             }
-            Err(_) => return Some(answer),
-        };
-        let used = used as usize;
+        }
+    }
+
+    /// Spoils a book that an accepted call left, and returns the used length that is told.
+    fn spoil_book(&self, before: &[u8], used: u64, book: &mut [u8], after: u64) -> u64 {
+        let (from, to) = (after as usize, used as usize);
         match self.0 {
-            FreedByteLeft if after < used => book[used - 1] = before[used - 1],
-            FreedBytesLeft if after < used => {
-                book[after..used].copy_from_slice(&before[after..used])
-            }
-            BytePastUsed => book[after.max(used)..]
+            FreedByteLeft if from < to => book[to - 1] = before[to - 1],
+            FreedBytesLeft if from < to => book[from..to].copy_from_slice(&before[from..to]),
+            BytePastUsed => book[from.max(to)..]
                 .iter_mut()
                 .take(1)
                 .for_each(|byte| *byte = 0),
-            RestZeroed => book[after..].fill(0),
+            RestZeroed => book[from..].fill(0),
             FirstByte => book.iter_mut().take(1).for_each(|byte| *byte ^= 0x20),
             _ => (),
         }
-        Some(Ok(match self.0 {
+        match self.0 {
             UsedOneMore => after + 1,
             UsedOneLess => after.saturating_sub(1),
             OldUsed => used,
             _ => after,
-        } as u64))
+        }
     }
 
     /// The account that the faulty program adds.

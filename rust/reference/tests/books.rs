@@ -259,18 +259,22 @@ fn cut_books() {
             "{used}"
         );
     }
-    // The used length passes the slice.
+    // The last bytes are no account.
+    assert_eq!(book_find(&start, 95, 7), Err(Refusal::DamagedBook));
+}
+
+/// The used length passes the slice, where something else stands at its end and where all of it is accounts.
+#[test]
+fn used_lengths_past_the_slice() {
+    let (start, _) = book_of(&[FIRST_BYTES, SECOND_BYTES, THIRD_BYTES]);
     for used in [96, 97, 1 << 32, MAX] {
         assert_eq!(book_find(&start, used, 7), Err(Refusal::DamagedBook));
     }
-    // Also where all of the slice is accounts.
     let full = &start[..88];
     assert_eq!(book_find(full, 88, 7), Ok(0));
     for used in [89, 1 << 32 | 88, MAX] {
         assert_eq!(book_find(full, used, 7), Err(Refusal::DamagedBook));
     }
-    // The last bytes are no account.
-    assert_eq!(book_find(&start, 95, 7), Err(Refusal::DamagedBook));
 }
 
 /// A book of FIRST and SECOND with other bytes at a place.
@@ -280,32 +284,46 @@ fn changed(place: usize, bytes: &[u8]) -> Vec<u8> {
     book
 }
 
+/// A place, and bytes there with which the book is damaged.
+const DAMAGED: [(usize, &[u8]); 17] = [
+    (0, b"a"),
+    (1, b"c"),
+    (0, b"CA"),
+    (23, b"\0"),
+    (24, b"\0"),
+    // R of 2, and of 16,385; C of 0, and of 257.
+    (7, b"\x02"),
+    (7, b"\x01\x40"),
+    (9, b"\0"),
+    (9, b"\x01\x01"),
+    // Salts of 7 and of 9 bytes, keys of none and of 2 and of 257.
+    (11, b"\x07"),
+    (11, b"\x09"),
+    (12, b"\0"),
+    (12, b"\x02"),
+    (12, b"\x01\x01"),
+    // The number of the other.
+    (2, b"\x01\x02\x03\x04"),
+    (25, b"\x07\0\0\0"),
+    // The second account goes past the used part.
+    (35, b"\x04"),
+];
+
+/// T is any byte, R and C are within their limits, the number is any that the other has not, and salt and key any.
+const HARMLESS: [(usize, &[u8]); 8] = [
+    (6, b"\xff"),
+    (7, b"\x04"),
+    (7, b"\0\x40"),
+    (9, b"\0\x01"),
+    (2, b"\x01\x02\x03\x05"),
+    (2, b"\xff\xff\xff\xff"),
+    (14, b"ACACACAC"),
+    (22, b"\0"),
+];
+
 #[test]
 fn damaged_heads() {
-    let damaged: [(usize, &[u8]); 17] = [
-        (0, b"a"),
-        (1, b"c"),
-        (0, b"CA"),
-        (23, b"\0"),
-        (24, b"\0"),
-        // R of 2, and of 16,385; C of 0, and of 257.
-        (7, b"\x02"),
-        (7, b"\x01\x40"),
-        (9, b"\0"),
-        (9, b"\x01\x01"),
-        // Salts of 7 and of 9 bytes, keys of none and of 2 and of 257.
-        (11, b"\x07"),
-        (11, b"\x09"),
-        (12, b"\0"),
-        (12, b"\x02"),
-        (12, b"\x01\x01"),
-        // The number of the other.
-        (2, b"\x01\x02\x03\x04"),
-        (25, b"\x07\0\0\0"),
-        // The second account goes past the used part.
-        (35, b"\x04"),
-    ];
-    for (place, bytes) in damaged {
+    for (place, bytes) in DAMAGED {
         let mut book = changed(place, bytes);
         let before = book.clone();
         for number in [7, 0x0403_0201, 99] {
@@ -319,18 +337,7 @@ fn damaged_heads() {
         }
         assert_eq!(book, before);
     }
-    // T is any byte, R and C are within their limits, the number is any that the other has not, and salt and key any.
-    let harmless: [(usize, &[u8]); 8] = [
-        (6, b"\xff"),
-        (7, b"\x04"),
-        (7, b"\0\x40"),
-        (9, b"\0\x01"),
-        (2, b"\x01\x02\x03\x05"),
-        (2, b"\xff\xff\xff\xff"),
-        (14, b"ACACACAC"),
-        (22, b"\0"),
-    ];
-    for (place, bytes) in harmless {
+    for (place, bytes) in HARMLESS {
         assert!(book_find(&changed(place, bytes), 49, SECOND.number).is_ok());
     }
 }

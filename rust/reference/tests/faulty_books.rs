@@ -551,6 +551,16 @@ impl Program {
         }
     }
 
+    /// The place of the account that a password is checked against.
+    fn checked_place(&self, bytes: &[u8], places: &[usize], number: u32) -> Option<usize> {
+        let place = self.place(bytes, places, number.into())?;
+        match self.0 {
+            FirstAccountChecked => places.first().copied(),
+            LastAccountChecked => places.last().copied(),
+            _ => Some(place),
+        }
+    }
+
     fn check_account(
         &self,
         password: &[u8],
@@ -560,16 +570,9 @@ impl Program {
         matrix: &mut [u64],
     ) -> Result<Checked, Refusal> {
         let good = self.good(bytes, used, number.into());
-        let places = match &good {
-            Some(places) => places.clone(),
-            None => self.places(bytes, bytes.len().min(used as usize)).0,
-        };
-        let place = self.place(bytes, &places, number.into());
-        let place = match self.0 {
-            FirstAccountChecked => place.and(places.first().copied()),
-            LastAccountChecked => place.and(places.last().copied()),
-            _ => place,
-        };
+        let readable = || self.places(bytes, bytes.len().min(used as usize)).0;
+        let places = good.clone().unwrap_or_else(readable);
+        let place = self.checked_place(bytes, &places, number);
         let account = place.map(|at| self.read(bytes, at));
         let words = match (self.0, account) {
             (LeastMatrixEnough, _) | (_, None) => 36,

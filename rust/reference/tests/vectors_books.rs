@@ -269,45 +269,60 @@ fn replaced_accounts_and_rooms() {
             found.insert((old.map(i64::signum), spare, is_accepted));
         }
     }
-    for change in [None, Some(1), Some(0), Some(-1)] {
-        let is_longer = change.is_none() || change == Some(1);
-        assert!(found.contains(&(change, 5, true)) || change.is_none());
-        if is_longer {
-            assert!(found.contains(&(change, -1, false)), "{change:?}");
-        }
-        let exact = (change, 0, true);
-        assert!(found.contains(&exact) || change == Some(-1), "{change:?}");
+    let due = [
+        // A new account, a longer one and one of the same length: exactly enough bytes, one too few, and more.
+        (None, 0, true),
+        (None, -1, false),
+        (None, 1, true),
+        (Some(1), 0, true),
+        (Some(1), -1, false),
+        (Some(1), 5, true),
+        (Some(0), 0, true),
+        (Some(0), 5, true),
+    ];
+    for one in due {
+        assert!(found.contains(&one), "{one:?}");
     }
+    // A shorter one always fits.
+    assert!(found.iter().any(|one| one.0 == Some(-1)));
 }
 
-/// Numbers, T, R, C and lengths of the accounts that are added, and right and wrong passwords.
+/// Right and wrong passwords, without visits and with some.
 #[test]
-fn accounts_and_passwords() {
-    let mut numbers = BTreeSet::new();
-    let mut values_added = [(); 5].map(|()| BTreeSet::new());
+fn passwords() {
     let mut answers = [0, 0];
-    let mut times = BTreeSet::new();
+    let mut reduced = BTreeSet::new();
     for case in cases() {
-        match (&case.question, &case.answer) {
-            (Question::BookAdd { number, values, .. }, Answer::Changed { .. }) => {
-                numbers.insert(*number);
-                let lengths = [values.salt.count(), values.key.count()];
-                let [salt, key] = lengths;
-                let all = [values.t, values.r, values.c, salt, key];
-                values_added.iter_mut().zip(all).for_each(|(set, value)| {
-                    set.insert(value);
-                });
+        if let (
+            Question::BookCheck { .. },
+            Answer::Checked {
+                matches, counts, ..
+            },
+        ) = (&case.question, &case.answer)
+        {
+            answers[usize::from(*matches)] += 1;
+            reduced.insert(counts.reduced);
+        }
+    }
+    assert!(answers.iter().all(|&count| count >= 8), "{answers:?}");
+    assert!(reduced.is_superset(&[3, 6].into()), "{reduced:?}");
+}
+
+/// Numbers, T, R, C and lengths of the accounts that are added.
+#[test]
+fn added_accounts() {
+    let mut numbers = BTreeSet::new();
+    let mut found = [(); 5].map(|()| BTreeSet::new());
+    for case in cases() {
+        if let (Question::BookAdd { number, values, .. }, Answer::Changed { .. }) =
+            (&case.question, &case.answer)
+        {
+            numbers.insert(*number);
+            let [salt, key] = [values.salt.count(), values.key.count()];
+            let all = [values.t, values.r, values.c, salt, key];
+            for (set, value) in found.iter_mut().zip(all) {
+                set.insert(value);
             }
-            (
-                Question::BookCheck { .. },
-                Answer::Checked {
-                    matches, counts, ..
-                },
-            ) => {
-                answers[usize::from(*matches)] += 1;
-                times.insert(counts.reduced);
-            }
-            _ => (),
         }
     }
     assert!(numbers.is_superset(&[0, 7, 0x0403_0201, u32::MAX].into()));
@@ -318,9 +333,7 @@ fn accounts_and_passwords() {
         &[8, 64],
         &[1, 2, 255, 256, 257, 1024],
     ];
-    for (found, due) in values_added.iter().zip(due) {
+    for (found, due) in found.iter().zip(due) {
         assert!(due.iter().all(|value| found.contains(value)), "{due:?}");
     }
-    assert!(answers.iter().all(|&count| count >= 8), "{answers:?}");
-    assert!(times.is_superset(&[3, 6].into()), "{times:?}");
 }

@@ -111,7 +111,8 @@ pub fn questions() -> Vec<Question> {
         removed(),
         full_of_accounts(),
         past_the_used_part(),
-        limits_of_the_new_account(),
+        costs_of_the_new_account(),
+        lengths_of_the_new_account(),
         places(),
         checks(),
         books_refused::questions(),
@@ -290,10 +291,9 @@ fn past_the_used_part() -> Vec<Question> {
     questions
 }
 
-/// T, R, C, salt and key at their limits, and beyond them; some values would pass if cut to fewer bits.
-fn limits_of_the_new_account() -> Vec<Question> {
+/// T, R and C at their limits, and beyond them; some values would pass if cut to fewer bits.
+fn costs_of_the_new_account() -> Vec<Question> {
     let book = book_of(&accounts()[..1], 24);
-    let usual = [1, 3, 1];
     let mut new = Vec::new();
     for t in [0, 1, 255, 256, 257, 1 << 32, u64::MAX] {
         new.push(account(1, [t, 3, 1], [8, 1]));
@@ -314,7 +314,13 @@ fn limits_of_the_new_account() -> Vec<Question> {
     for c in [0, 1, 0x0100, 257, 1 << 16 | 1, 1 << 32 | 1, u64::MAX] {
         new.push(account(1, [1, 3, c], [8, 1]));
     }
-    let mut questions: Vec<Question> = new.iter().map(|new| add(&book, new)).collect();
+    new.iter().map(|new| add(&book, new)).collect()
+}
+
+/// Salts and keys in the same way.
+fn lengths_of_the_new_account() -> Vec<Question> {
+    let usual = [1, 3, 1];
+    let mut questions = Vec::new();
     for salt in [0, 7, 8, 9, 63, 64, 65, 1 << 8, 1 << 8 | 8] {
         let book = book_of(&accounts()[..1], 14 + 65 + 1);
         questions.push(add(&book, &account(1, usual, [salt, 1])));
@@ -328,6 +334,7 @@ fn limits_of_the_new_account() -> Vec<Question> {
         questions.push(add(&book_of(&[], spare), &account(1, usual, [8, key])));
     }
     for key in [1 << 16 | 1, 1 << 17] {
+        let book = book_of(&accounts()[..1], 24);
         let mut question = add(&book, &account(1, usual, [8, 1]));
         if let Question::BookAdd { values, .. } = &mut question {
             values.key = Bytes::Zeros(key);

@@ -117,14 +117,7 @@ fn read_question(fields: &mut Fields) -> Result<Question, Trouble> {
             stored: fields.bytes("stored", "stored_zeros")?,
         },
         "cost" => Question::Cost {
-            given: Parameters {
-                key_len: fields.any_number("key_len")?,
-                password_len: fields.any_number("password_len")?,
-                salt_len: fields.any_number("salt_len")?,
-                t: fields.any_number("T")?,
-                r: fields.any_number("R")?,
-                c: fields.any_number("C")?,
-            },
+            given: read_parameters(fields)?,
             rho: if fields.has("rho") {
                 Some(fields.any_number("rho")?)
             } else {
@@ -204,6 +197,17 @@ fn read_values(fields: &mut Fields) -> Result<LoginValues, Trouble> {
         c: fields.any_number("C")?,
         salt: fields.bytes("salt", "salt_zeros")?,
         key: fields.bytes("key", "key_zeros")?,
+    })
+}
+
+fn read_parameters(fields: &mut Fields) -> Result<Parameters, Trouble> {
+    Ok(Parameters {
+        key_len: fields.any_number("key_len")?,
+        password_len: fields.any_number("password_len")?,
+        salt_len: fields.any_number("salt_len")?,
+        t: fields.any_number("T")?,
+        r: fields.any_number("R")?,
+        c: fields.any_number("C")?,
     })
 }
 
@@ -295,12 +299,7 @@ fn read_answer(fields: &mut Fields, question: &Question) -> Result<Answer, Troub
         Question::LineWrite { .. } => Answer::LineWritten {
             line: fields.hex("line")?,
         },
-        Question::Choose { .. } => Answer::Chosen(Choice {
-            t: fields.any_number("T")?,
-            r: fields.any_number("R")?,
-            c: fields.any_number("C")?,
-            shortfall: fields.any_number("shortfall")?,
-        }),
+        Question::Choose { .. } => Answer::Chosen(read_choice(fields)?),
         Question::BookFind { .. } => Answer::Found {
             place: fields.any_number("place")?,
         },
@@ -308,15 +307,28 @@ fn read_answer(fields: &mut Fields, question: &Question) -> Result<Answer, Troub
             used_after: fields.any_number("used_after")?,
             book_after: fields.hex("book_after")?,
         },
-        Question::BookAccount { .. } => Answer::Account(AccountValues {
-            size: fields.any_number("size")?,
-            number: read_account_number(fields)?,
-            t: fields.any_number("T")?,
-            r: fields.any_number("R")?,
-            c: fields.any_number("C")?,
-            salt_len: fields.any_number("salt_len")?,
-            key_len: fields.any_number("key_len")?,
-        }),
+        Question::BookAccount { .. } => Answer::Account(read_account_values(fields)?),
+    })
+}
+
+fn read_account_values(fields: &mut Fields) -> Result<AccountValues, Trouble> {
+    Ok(AccountValues {
+        size: fields.any_number("size")?,
+        number: read_account_number(fields)?,
+        t: fields.any_number("T")?,
+        r: fields.any_number("R")?,
+        c: fields.any_number("C")?,
+        salt_len: fields.any_number("salt_len")?,
+        key_len: fields.any_number("key_len")?,
+    })
+}
+
+fn read_choice(fields: &mut Fields) -> Result<Choice, Trouble> {
+    Ok(Choice {
+        t: fields.any_number("T")?,
+        r: fields.any_number("R")?,
+        c: fields.any_number("C")?,
+        shortfall: fields.any_number("shortfall")?,
     })
 }
 

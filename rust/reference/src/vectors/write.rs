@@ -1,8 +1,11 @@
 //! Writing a case as a line of text.
 
-use super::case::{Answer, Bytes, Case, Given, LentBook, LoginValues, NamedSettings, Question};
+use super::case::{
+    Answer, Bytes, Case, Given, LentBook, LoginValues, NamedSettings, Output, Question,
+};
 use crate::account::AccountValues;
 use crate::choice::{Choice, Limits};
+use crate::input::Parameters;
 use crate::settings::Mixer;
 use crate::sponge::Counts;
 
@@ -66,16 +69,8 @@ fn question(question: &Question) -> Vec<Field> {
             stored,
         } => [vec![bytes("stored", "stored_zeros", stored)], given(inputs)].concat(),
         Question::Cost { given, rho } => {
-            let mut fields = vec![
-                ("key_len", given.key_len.to_string()),
-                ("password_len", given.password_len.to_string()),
-                ("salt_len", given.salt_len.to_string()),
-                ("T", given.t.to_string()),
-                ("R", given.r.to_string()),
-                ("C", given.c.to_string()),
-            ];
-            fields.extend(rho.map(|rho| ("rho", rho.to_string())));
-            fields
+            let rho = rho.map(|rho| ("rho", rho.to_string()));
+            [parameters(given), rho.into_iter().collect()].concat()
         }
         Question::Walk { r, row0 } => vec![("R", r.to_string()), ("row0", row0.to_string())],
         Question::WalkProgram { input } => vec![("input", hex(input))],
@@ -133,6 +128,17 @@ fn book_and_number(book: &LentBook, number: u32) -> Vec<Field> {
         ("book", hex(&book.bytes)),
         ("used", book.used.to_string()),
         ("number", number.to_string()),
+    ]
+}
+
+fn parameters(given: &Parameters) -> Vec<Field> {
+    vec![
+        ("key_len", given.key_len.to_string()),
+        ("password_len", given.password_len.to_string()),
+        ("salt_len", given.salt_len.to_string()),
+        ("T", given.t.to_string()),
+        ("R", given.r.to_string()),
+        ("C", given.c.to_string()),
     ]
 }
 
@@ -218,14 +224,7 @@ pub fn answer(answer: &Answer) -> Vec<Field> {
         }
         Answer::Cost(spent) => [accepted, counts(spent)].concat(),
         Answer::Walk { row1 } => [accepted, vec![("row1", row1.to_string())]].concat(),
-        Answer::Output(output) => {
-            let mut fields = vec![
-                ("output_len", output.len.to_string()),
-                ("output_sum", word(output.sum)),
-            ];
-            fields.extend(output.listed.iter().map(|bytes| ("output", hex(bytes))));
-            fields
-        }
+        Answer::Output(printed) => output(printed),
         Answer::LineRead(values) => [accepted, login_values(values)].concat(),
         Answer::LineWritten { line } => [accepted, vec![("line", hex(line))]].concat(),
         Answer::Chosen(chosen) => [accepted, choice(chosen)].concat(),
@@ -233,12 +232,16 @@ pub fn answer(answer: &Answer) -> Vec<Field> {
         Answer::Changed {
             used_after,
             book_after,
-        } => {
-            let used_after = ("used_after", used_after.to_string());
-            [accepted, vec![used_after, ("book_after", hex(book_after))]].concat()
-        }
+        } => [accepted, changed(*used_after, book_after)].concat(),
         Answer::Account(values) => [accepted, account(values)].concat(),
     }
+}
+
+fn changed(used_after: u64, book_after: &[u8]) -> Vec<Field> {
+    vec![
+        ("used_after", used_after.to_string()),
+        ("book_after", hex(book_after)),
+    ]
 }
 
 fn account(values: &AccountValues) -> Vec<Field> {
@@ -251,6 +254,15 @@ fn account(values: &AccountValues) -> Vec<Field> {
         ("salt_len", values.salt_len.to_string()),
         ("key_len", values.key_len.to_string()),
     ]
+}
+
+fn output(output: &Output) -> Vec<Field> {
+    let mut fields = vec![
+        ("output_len", output.len.to_string()),
+        ("output_sum", word(output.sum)),
+    ];
+    fields.extend(output.listed.iter().map(|bytes| ("output", hex(bytes))));
+    fields
 }
 
 fn recorded(answer: &Answer) -> Vec<Field> {
