@@ -180,9 +180,10 @@ impl Subject for Proved {
     }
 
     fn book_find(&self, book: &[u8], used: u64, number: u32) -> Option<Result<u64, Refusal>> {
-        let mut place = BEFORE as usize;
-        let answer = lyra2_sys::book_find(lent(book, used), number, &mut place);
-        Some(book_number(answer, place))
+        let book = lent(book, used);
+        Some(book_number(|place| {
+            lyra2_sys::book_find(book, number, place)
+        }))
     }
 
     fn book_add(
@@ -198,15 +199,15 @@ impl Subject for Proved {
             salt: account.salt,
             key: account.key,
         };
-        let mut used_after = BEFORE as usize;
-        let answer = lyra2_sys::book_add(book, size(used), account.number, parts, &mut used_after);
-        Some(book_number(answer, used_after))
+        Some(book_number(|used_after| {
+            lyra2_sys::book_add(book, size(used), account.number, parts, used_after)
+        }))
     }
 
     fn book_remove(&self, book: &mut [u8], used: u64, number: u32) -> Option<Result<u64, Refusal>> {
-        let mut used_after = BEFORE as usize;
-        let answer = lyra2_sys::book_remove(book, size(used), number, &mut used_after);
-        Some(book_number(answer, used_after))
+        Some(book_number(|used_after| {
+            lyra2_sys::book_remove(book, size(used), number, used_after)
+        }))
     }
 
     fn book_check(
@@ -255,8 +256,17 @@ fn lent(bytes: &[u8], used: u64) -> lyra2_sys::Book<'_> {
     }
 }
 
-/// The place or the used length of an accepted call; that of a refused one must be zero.
-fn book_number(answer: u32, number: usize) -> Result<u64, Refusal> {
+/// The place or the used length that an accepted call puts down; that of a refused one must be zero.
+fn book_number(call: impl FnOnce(&mut usize) -> u32) -> Result<u64, Refusal> {
+    // The number stands between others, which show whether a call writes beside it.
+    let mut numbers = [BEFORE as usize; 3];
+    let answer = call(&mut numbers[1]);
+    let [before, number, after] = numbers;
+    assert_eq!(
+        [before, after],
+        [BEFORE as usize; 2],
+        "beside the answer of a call on a book"
+    );
     if answer != 0 {
         assert_eq!(number, 0, "the place or used length of a refused call");
     }
