@@ -2,25 +2,31 @@
  * Lyra2 key derivation: the C interface of the proved library (C99, C++11; link libderivation_export.a, which is
  * installed as liblyra2.a).
  *
- * Answer        Every call but lyra2_record_pair, which refuses nothing, returns LYRA2_ACCEPTED or the number of a
- *               refusal. Of several that apply it is the first in the call's order, which enum lyra2_refusal gives.
+ * Answer        Every call but lyra2_record_pair and lyra2_book_account, which refuse nothing, returns LYRA2_ACCEPTED or
+ *               the number of a refusal. Of several that apply it is the first in the call's order, which enum
+ *               lyra2_refusal gives.
  * Memory        The caller lends all of it. There is no heap and no global state, nothing to set up, nothing to free.
  * Written       Accepted: what the declaration says, and nothing else. Refused: the answer's fields, which are `same`,
- *               the counts, the state, `row1`, a choice's values, a line's values and its length, become 0; nothing
- *               else that is lent is written.
+ *               the counts, the state, `row1`, a choice's values, a line's values and its length, an account's place
+ *               and a book's new used length, become 0; nothing else that is lent is written. A refused lyra2_book_add
+ *               or lyra2_book_remove so stores 0 for the new used length although the book is as it was: keep the used
+ *               length in a place of its own, and take the new one over only if the call was accepted.
  * Before        What a call writes may hold anything beforehand. No answer depends on it.
  * Pointers      Never null, not even with a length of 0, and good for as many elements as the length says.
- *               Words, `row1`, a choice's values, a line's values and its length lie at addresses that 8 divides,
- *               `same` at one that 4 divides, bytes anywhere.
- * Overlap       What a call writes overlaps nothing else that it is lent. What it only reads may overlap.
+ *               Words, `row1`, a choice's values, a line's values and its length, an account's place and values and
+ *               a book's new used length lie at addresses that 8 divides, `same` at one that 4 divides, bytes anywhere.
+ * Overlap       What a call writes overlaps nothing else that it is lent: salt and key of an account that is added do
+ *               not lie in the book, whose bytes move. What a call only reads may overlap.
  * Threads       Any number of calls at once, each with its own memory to write. Nobody else writes what a call is lent.
  * Time          Depends on the lengths and numbers, and on the rows and columns that the visits pick, which in Lyra2
- *               depend on the password. The check compares every byte, whatever it finds.
- * Secrets       Wipe the password, the key, a login line, which holds the key, and, after a recorded derivation, matrix,
- *               record and state. Whoever has the last three can try guesses with them, and all together give the key
- *               and mostly the password too, since the steps can be undone. The matrix of lyra2_derive and lyra2_check
- *               needs no wiping: accepted, they end with zeros in its used words, and it can be lent on at once;
- *               refused, they leave in it what it held.
+ *               depend on the password. The checks compare every byte of the key, whatever they find. A call with a
+ *               book looks at its marks, account numbers, costs and lengths as well, and to see that no number stands
+ *               there twice it takes time that grows with the square of the number of accounts.
+ * Secrets       Wipe the password, the key, a login line and a book, which hold keys, and, after a recorded derivation,
+ *               matrix, record and state. Whoever has the last three can try guesses with them, and all together give
+ *               the key and mostly the password too, since the steps can be undone. The matrix of lyra2_derive,
+ *               lyra2_check and lyra2_book_check needs no wiping: accepted, they end with zeros in its used words, and
+ *               it can be lent on at once; refused, they leave in it what it held.
  * Stack         Less than LYRA2_STACK_BYTES. A call clears its state there: no word of the key, the password or the
  *               matrix was found afterwards, and of the state only what a recorded derivation returns. This is measured
  *               and not promised. Registers are not cleared.
@@ -65,7 +71,8 @@ extern "C" {
  * and no third, so no refusal is about it: any number but 0 that is converted to it becomes true, which is BlaMka.
  * Another language passes its own form of C's bool, a byte of 0 or 1.
  * A key is checked with the settings that it was made with, and it does not tell them: who takes others than the usual
- * ones keeps them beside it. A login line has no place for them, so its key goes with the usual choice.
+ * ones keeps them beside it. A login line and an account of a book have no place for them, so their keys go with the
+ * usual choice.
  */
 #define LYRA2_REDUCED_ROUNDS_MIN 1
 #define LYRA2_REDUCED_ROUNDS_MAX 12
@@ -88,6 +95,28 @@ extern "C" {
 #define LYRA2_LINE_COLUMNS 2
 #define LYRA2_LINE_SALT_LEN 3
 #define LYRA2_LINE_KEY_LEN 4
+
+/*
+ * A book of accounts: lent bytes, of which the first `used` are in use, and these are one account after the other. An
+ * account is the two bytes of LYRA2_ACCOUNT_MARK, then its number (4 bytes), the time (1), the rows (2), the columns
+ * (2), the length of the salt (1) and that of the key (2), each with its lowest byte first, then the salt, then the key.
+ * A book is good if `used` is at most its length and the used part is nothing but whole accounts within the limits
+ * above, no two of one number; the number may be any of 32 bits. A book of no accounts, 0 used bytes, is good. The place
+ * of an account is the index of its first byte in the book; LYRA2_ACCOUNT_HEAD bytes further on its salt starts, and
+ * right behind the salt its key. LYRA2_ACCOUNT_BYTES is the size of an account, at most LYRA2_ACCOUNT_MAX, and the sizes
+ * of all accounts add up to the used length. The values of an account, by their index:
+ */
+#define LYRA2_ACCOUNT_MARK "AC"
+#define LYRA2_ACCOUNT_HEAD 14
+#define LYRA2_ACCOUNT_BYTES(salt_len, key_len) (UINT64_C(1) * LYRA2_ACCOUNT_HEAD + (salt_len) + (key_len))
+#define LYRA2_ACCOUNT_MAX 1102
+#define LYRA2_ACCOUNT_VALUES 6
+#define LYRA2_ACCOUNT_NUMBER 0
+#define LYRA2_ACCOUNT_TIME 1
+#define LYRA2_ACCOUNT_ROWS 2
+#define LYRA2_ACCOUNT_COLUMNS 3
+#define LYRA2_ACCOUNT_SALT_LEN 4
+#define LYRA2_ACCOUNT_KEY_LEN 5
 
 #define LYRA2_STATE_WORDS 16
 #define LYRA2_CELL_WORDS 12
@@ -124,6 +153,10 @@ extern "C" {
  *     lyra2_walk                   5, 9
  *     lyra2_line_read              11, 1, 3, 10, 4, 5, 6, 12
  *     lyra2_line_write             1, 3, 10, 4, 5, 6, 12
+ *     lyra2_book_find              17, 18
+ *     lyra2_book_add               1, 3, 10, 4, 5, 6, 17, 19
+ *     lyra2_book_remove            17, 18
+ *     lyra2_book_check             2, 17, 18, 7
  */
 enum lyra2_refusal {
     LYRA2_ACCEPTED = 0,
@@ -142,7 +175,10 @@ enum lyra2_refusal {
     LYRA2_REFUSED_ROUNDS = 13,
     LYRA2_REFUSED_ROTATION = 14,
     LYRA2_REFUSED_TRIES = 15,
-    LYRA2_REFUSED_NOTHING_FITS = 16
+    LYRA2_REFUSED_NOTHING_FITS = 16,
+    LYRA2_REFUSED_BOOK = 17,
+    LYRA2_REFUSED_NO_ACCOUNT = 18,
+    LYRA2_REFUSED_BOOK_FULL = 19
 };
 
 /* What an answer says, in words. */
@@ -166,6 +202,9 @@ static inline const char *lyra2_sentence(uint32_t answer)
     case LYRA2_REFUSED_ROTATION: return "the rotation has to be by 1 to 11 words";
     case LYRA2_REFUSED_TRIES: return "at least one column count has to be tried";
     case LYRA2_REFUSED_NOTHING_FITS: return "no time cost from 1, rows and columns fit the matrix and the budget";
+    case LYRA2_REFUSED_BOOK: return "the book has to be whole accounts within the limits, no number twice";
+    case LYRA2_REFUSED_NO_ACCOUNT: return "the book has no account of this number";
+    case LYRA2_REFUSED_BOOK_FULL: return "the book has no room for the account";
     default: return "no answer has this number";
     }
 }
@@ -267,6 +306,64 @@ LYRA2_ANSWER uint32_t lyra2_line_write(
     const uint8_t *key, size_t key_len,
     uint8_t *line, size_t line_room,
     size_t *line_len);
+
+/* Finds the account of a number in a book. Writes *place, the index of its first byte. */
+LYRA2_ANSWER uint32_t lyra2_book_find(
+    const uint8_t *book, size_t book_len, size_t used,
+    uint32_t number,
+    size_t *place);
+
+/*
+ * Puts an account at the end of a book; one of the same number that is there already is taken out first, so the new one
+ * replaces it. All others keep their bytes and their order. The key comes ready: lyra2_derive makes it, with the usual
+ * settings. LYRA2_REFUSED_BOOK_FULL goes by the length that the book would end with, the old account gone, and leaves
+ * the old one in its place. Writes the book and *used_after, its new used length. Bytes of the book that are no longer
+ * used become 0; those that were not used before and are not now keep their contents. Refused, *used_after is 0, which
+ * is not the book's used length.
+ */
+LYRA2_ANSWER uint32_t lyra2_book_add(
+    uint8_t *book, size_t book_len, size_t used,
+    uint32_t number,
+    size_t time, size_t rows, size_t columns,
+    const uint8_t *salt, size_t salt_len,
+    const uint8_t *key, size_t key_len,
+    size_t *used_after);
+
+/*
+ * Takes the account of a number out of a book and moves the later ones up. Writes the book and *used_after, its new used
+ * length. The bytes that are no longer used become 0; those that were not used before keep their contents. Refused,
+ * *used_after is 0, which is not the book's used length.
+ */
+LYRA2_ANSWER uint32_t lyra2_book_remove(
+    uint8_t *book, size_t book_len, size_t used,
+    uint32_t number,
+    size_t *used_after);
+
+/*
+ * Tells whether the key of an account is that of the password, as lyra2_check does with the account's costs, salt and
+ * key and the usual settings: *same becomes 1 or 0. The book is only read. Writes the used matrix too, which ends as
+ * zeros, and the counts. After a refusal *same is 0, a no.
+ */
+LYRA2_ANSWER uint32_t lyra2_book_check(
+    const uint8_t *password, size_t password_len,
+    const uint8_t *book, size_t book_len, size_t used,
+    uint32_t number,
+    uint64_t *matrix, size_t matrix_words,
+    uint32_t *same,
+    uint64_t counts[LYRA2_COUNTS]);
+
+/*
+ * Reads the account at a place: a book is gone through by starting at place 0 and adding the returned size until that is
+ * 0. Here book_len is the used length: nothing behind it is taken for an account. Writes the values, which are the
+ * number, T, R, C and the lengths of salt and key, and returns the account's size, LYRA2_ACCOUNT_BYTES of the two
+ * lengths. Where no whole account within the limits starts at the place, all of these are 0; the place may be any
+ * number. Looks at this account alone, so it tells nothing about the rest of the book: in a damaged one the steps end at
+ * the damage, short of book_len, and a number that stands there twice is met twice. lyra2_book_find says
+ * LYRA2_REFUSED_BOOK to both.
+ */
+size_t lyra2_book_account(
+    const uint8_t *book, size_t book_len, size_t place,
+    size_t values[LYRA2_ACCOUNT_VALUES]);
 
 #ifdef __cplusplus
 }
