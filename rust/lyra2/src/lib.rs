@@ -88,6 +88,29 @@
 //! # Ok::<(), lyra2::Refusal>(())
 //! ```
 //!
+//! # A book of accounts
+//!
+//! A gateway that checks passwords by itself keeps its accounts in a [`Book`]: lent bytes, in which an account has a
+//! number, T, R, C, a salt and a key, which goes with the usual rounds, rotation and mixer. docs/ACCOUNT-BOOKS.md
+//! describes the form. Accounts are added, replaced, removed, found and checked against a password; a `Book` keeps the
+//! used length, also where an operation is refused. The bytes are as secret as the keys in them.
+//!
+//! ```
+//! use lyra2::{derive, Account, Book, Parameters};
+//!
+//! let parameters = Parameters { time: 1, rows: 8, columns: 4 };
+//! let (mut matrix, mut key) = ([0; 12 * 8 * 4], [0; 32]);
+//! let mut book = Book::new([0; 1000], 0);
+//! for (number, password) in [(1, b"one"), (2, b"two")] {
+//!     derive(password, b"saltsalt", parameters, &mut key, &mut matrix)?;
+//!     book.add(Account { number, parameters, salt: b"saltsalt", key: &key })?;
+//! }
+//! assert!(book.check(b"two", 2, &mut matrix)?.same);
+//! assert!(!book.check(b"two", 1, &mut matrix)?.same);
+//! assert_eq!(book.accounts().count(), 2);
+//! # Ok::<(), lyra2::Refusal>(())
+//! ```
+//!
 //! # Costs for a gateway
 //!
 //! [`choose`] proposes T, R and C for the memory and the rounds that a gateway can spend on a login, and says how many
@@ -170,6 +193,7 @@
 #![forbid(unsafe_code)]
 #![warn(missing_docs)]
 
+mod book;
 mod choice;
 mod line;
 mod operations;
@@ -177,6 +201,7 @@ mod parameters;
 mod record;
 mod refusal;
 
+pub use book::{Account, Book, ACCOUNT_HEAD, ACCOUNT_MAX};
 pub use choice::{choose, Choice, Limits};
 pub use line::{read_line, write_line, Line, KEY_MAX, LINE_MAX, SALT_MAX};
 pub use lyra2_memory::{Granted, Memory, NoMemory};

@@ -19,7 +19,7 @@ pub struct Counts {
 
 impl Counts {
     /// The counts as the library stores them.
-    fn stored([full, reduced, rounds]: lyra2_sys::Counts) -> Counts {
+    pub(crate) fn stored([full, reduced, rounds]: lyra2_sys::Counts) -> Counts {
         Counts {
             full,
             reduced,

@@ -100,7 +100,7 @@ pub enum Mixer {
 /// ```
 ///
 /// Unlike T, R and C the rounds, the rotation and the mixer are not absorbed with the input, and no key shows which they
-/// were. Who stores a key of another choice stores the choice beside it; a login line has no room for it.
+/// were. Who stores a key of another choice stores the choice beside it; a login line and an account have no room for it.
 #[derive(Clone, Copy, Debug, PartialEq, Eq)]
 pub struct Settings {
     /// T, R and C, which give the sizes of matrix and record.

@@ -42,11 +42,18 @@ pub enum Refusal {
     Tries = 15,
     /// A choice of costs finds none: no T from 1 on, R and C fit the words and the budget.
     NothingFits = 16,
+    /// A book's used length passes its bytes, or its used part is not nothing but whole accounts within the limits, no
+    /// two of one number.
+    BookForm = 17,
+    /// A book has no account of this number.
+    NoAccount = 18,
+    /// A book's bytes are too few for the accounts that it would have.
+    BookFull = 19,
 }
 
 impl Refusal {
     /// Every refusal, by number. The order of an operation's checks is another; its documentation gives it.
-    pub const ALL: [Refusal; 16] = [
+    pub const ALL: [Refusal; 19] = [
         Refusal::KeyLength,
         Refusal::PasswordLength,
         Refusal::SaltTooShort,
@@ -63,6 +70,9 @@ impl Refusal {
         Refusal::Rotation,
         Refusal::Tries,
         Refusal::NothingFits,
+        Refusal::BookForm,
+        Refusal::NoAccount,
+        Refusal::BookFull,
     ];
 
     /// The refusal's number.
@@ -116,6 +126,12 @@ impl fmt::Display for Refusal {
             Refusal::NothingFits => {
                 return f.write_str("no T from 1 on, R and C fit the matrix and the budget");
             }
+            Refusal::BookForm => {
+                let words = "the book must be whole accounts within the limits, no number twice";
+                return f.write_str(words);
+            }
+            Refusal::NoAccount => return f.write_str("the book has no account of this number"),
+            Refusal::BookFull => return f.write_str("the book must have room for the account"),
         };
         write!(f, "{what} {} to {}{unit}", limits.start(), limits.end())
     }

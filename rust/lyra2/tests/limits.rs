@@ -353,9 +353,9 @@ fn walk_questions() {
 }
 
 #[test]
-fn refusals_are_numbered_from_1_to_16_and_each_has_its_sentence() {
+fn refusals_are_numbered_from_1_to_19_and_each_has_its_sentence() {
     let numbers = Refusal::ALL.map(Refusal::number);
-    assert!(numbers.into_iter().eq(1..=16), "{numbers:?}");
+    assert!(numbers.into_iter().eq(1..=19), "{numbers:?}");
     let sentences = Refusal::ALL.map(|refusal| refusal.to_string());
     let named = [
         "1 to 1024",
@@ -374,6 +374,9 @@ fn refusals_are_numbered_from_1_to_16_and_each_has_its_sentence() {
         "rotation must be 1 to 11 words",
         "at least one column count",
         "no T from 1 on, R and C fit",
+        "whole accounts within the limits, no number twice",
+        "no account of this number",
+        "room for the account",
     ];
     for (sentence, limit) in sentences.iter().zip(named) {
         assert!(sentence.contains(limit), "{sentence}");
