@@ -91,6 +91,9 @@ impl Refusal {
     }
 }
 
+const LINE_FORM: &str = "the line must be of the form $lyra2$t=T,r=R,c=C$SALT$KEY";
+const BOOK_FORM: &str = "the book must be whole accounts within the limits, no number twice";
+
 impl fmt::Display for Refusal {
     fn fmt(&self, f: &mut fmt::Formatter<'_>) -> fmt::Result {
         let (what, limits, unit) = match self {
@@ -114,9 +117,7 @@ impl fmt::Display for Refusal {
                 let most = SALT_LENGTHS.end();
                 return write!(f, "the salt must be at most {most} bytes long");
             }
-            Refusal::LineForm => {
-                return f.write_str("the line must be of the form $lyra2$t=T,r=R,c=C$SALT$KEY");
-            }
+            Refusal::LineForm => return f.write_str(LINE_FORM),
             Refusal::OutputTooShort => {
                 return f.write_str("the outputs must have room for what is written there");
             }
@@ -126,10 +127,7 @@ impl fmt::Display for Refusal {
             Refusal::NothingFits => {
                 return f.write_str("no T from 1 on, R and C fit the matrix and the budget");
             }
-            Refusal::BookForm => {
-                let words = "the book must be whole accounts within the limits, no number twice";
-                return f.write_str(words);
-            }
+            Refusal::BookForm => return f.write_str(BOOK_FORM),
             Refusal::NoAccount => return f.write_str("the book has no account of this number"),
             Refusal::BookFull => return f.write_str("the book must have room for the account"),
         };
