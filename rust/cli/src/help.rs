@@ -18,6 +18,18 @@ pub const LINE_EXAMPLE: &str = "Example, in which a password is typed twice and 
 lyra2 line --time 1 --rows 1024 --columns 64 --key-length 32 --output line\n    \
 lyra2 login --line-file line";
 
+/// Accounts made and used.
+pub const BOOK_EXAMPLE: &str = "Example, in which a password is typed twice and then once:\n    \
+lyra2 book add --book book --number 7 --time 1 --rows 1024 --columns 64 --key-length 32\n    \
+lyra2 book check --book book --number 7\n    \
+lyra2 book list --book book";
+
+/// How the file of a book is changed.
+pub const BOOK_CHANGE: &str =
+    "The new book is written beside FILE and takes its name once it is whole, so that FILE is always the old book or the \
+new one; it keeps its owner, group and mode. One program changes it at a time, and others wait. Of a link the file has \
+to be named that it leads to.";
+
 /// The exit status of the commands that do not answer yes or no.
 pub const STATUS: &str =
     "Exit status: 0 for a result, 2 for a refusal or anything that went wrong.";

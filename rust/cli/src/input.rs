@@ -87,12 +87,11 @@ impl Input {
         let checked = self.shown(stored.len(), |password, salt, settings| {
             lyra2::check(password, salt, settings, stored, &mut matrix)
         })?;
-        let word = if checked.same { "yes\n" } else { "no\n" };
-        Ok(Outcome::answer(checked.same, word))
+        Ok(Outcome::yes_or_no(checked.same))
     }
 
     /// Makes a call for a key of this length, shows meanwhile how far it is, and wipes the stack that it used.
-    fn shown<A>(
+    pub fn shown<A>(
         &self,
         key: usize,
         call: impl FnOnce(&[u8], &[u8], Settings) -> Result<A, Refusal>,

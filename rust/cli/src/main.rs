@@ -4,10 +4,12 @@
 
 #![forbid(unsafe_code)]
 
+mod book;
 mod choice;
 mod commands;
 mod end_state;
 mod estimate;
+mod exclusive;
 mod failure;
 mod help;
 mod hex;

@@ -1,6 +1,7 @@
 //! Memory to lend to the library.
 
 use crate::failure::Failure;
+use crate::secret::Secret;
 use lyra2::{Memory, NoMemory, Parameters};
 
 /// A matrix for these parameters.
@@ -26,6 +27,16 @@ pub fn require_matrix(parameters: Parameters) -> Result<(), Failure> {
 /// A record for these parameters.
 pub fn record(parameters: Parameters) -> Result<Memory, Failure> {
     named("record", parameters.record())
+}
+
+/// So many zeros for what may hold keys.
+pub fn bytes(what: &str, count: usize) -> Result<Secret, Failure> {
+    let mut bytes = Vec::new();
+    if bytes.try_reserve_exact(count).is_err() {
+        return Err(missing(what, Some(count)));
+    }
+    bytes.resize(count, 0);
+    Ok(Secret::new(bytes))
 }
 
 /// If the memory is not there the failure says what it was for.

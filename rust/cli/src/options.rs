@@ -173,6 +173,20 @@ impl StoredKeyOptions {
 }
 
 #[derive(Args)]
+pub struct BookOption {
+    /// The file of the book
+    #[arg(long, value_name = "FILE")]
+    pub book: PathBuf,
+}
+
+#[derive(Args)]
+pub struct NumberOption {
+    /// The number of the account, 0 to 4294967295
+    #[arg(long, value_name = "N", value_parser = account_number, allow_negative_numbers = true)]
+    pub number: u32,
+}
+
+#[derive(Args)]
 pub struct PasswordOption {
     /// A file whose bytes are the password, all of them, a last newline too
     #[arg(long, value_name = "FILE")]
@@ -189,6 +203,12 @@ impl PasswordOption {
 fn mixers() -> impl TypedValueParser<Value = Mixer> {
     let names = PossibleValuesParser::new(mixer::ALL.map(mixer::name));
     names.map(|name| mixer::named(&name).expect("clap takes these names alone"))
+}
+
+/// A number of an account in decimal digits. The library takes every one that has room in a `u32`.
+fn account_number(text: &str) -> Result<u32, String> {
+    let number = decimal(text)?;
+    u32::try_from(number).map_err(|_| format!("{text} has more than 32 bits"))
 }
 
 /// A number in decimal digits, and nothing beside them. Its limits are the library's to check.

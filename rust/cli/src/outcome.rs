@@ -31,6 +31,11 @@ impl Outcome {
         }
     }
 
+    /// The answer yes or no, in words.
+    pub fn yes_or_no(yes: bool) -> Outcome {
+        Outcome::answer(yes, if yes { "yes\n" } else { "no\n" })
+    }
+
     /// The answer to a question of yes or no.
     pub fn answer(yes: bool, text: impl Into<Vec<u8>>) -> Outcome {
         Outcome {

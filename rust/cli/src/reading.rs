@@ -44,8 +44,15 @@ pub fn are_same_file(sources: [Option<&Path>; 2]) -> Result<bool, Failure> {
 /// Reads until the input ends, or so many bytes.
 fn read_bytes(source: &mut impl Read, most: usize) -> io::Result<Secret> {
     let mut bytes = zeros(most);
+    let used = fill(source, &mut bytes)?;
+    bytes.truncate(used);
+    Ok(bytes)
+}
+
+/// Reads until the input ends or the bytes are full; returns how many were read.
+pub fn fill(source: &mut impl Read, bytes: &mut [u8]) -> io::Result<usize> {
     let mut used = 0;
-    while used < most {
+    while used < bytes.len() {
         match source.read(&mut bytes[used..]) {
             Ok(0) => break,
             Ok(count) => used += count,
@@ -53,8 +60,7 @@ fn read_bytes(source: &mut impl Read, most: usize) -> io::Result<Secret> {
             Err(error) => return Err(error),
         }
     }
-    bytes.truncate(used);
-    Ok(bytes)
+    Ok(used)
 }
 
 /// Leaves out the last byte if it is a newline.

@@ -8,6 +8,9 @@ use std::os::unix::ffi::OsStrExt;
 use std::os::unix::fs::OpenOptionsExt;
 use std::path::{Path, PathBuf};
 
+/// What a name is told for that stands for something else.
+pub const NOT_A_FILE: &str = "it is there and is not a regular file";
+
 /// A new file for a name. Dropped before it is put there, it is removed, and what the name had stays.
 pub struct Replacement {
     /// The new file, which its owner alone may read and write.
@@ -48,11 +51,7 @@ impl Drop for Replacement {
 
 /// Requires a name that is free, or that of a regular file, or of a link to one or to nothing.
 fn require_replaceable(target: &Path) -> io::Result<()> {
-    // A slash or a dot after the last name asks for a folder.
-    let name = target.file_name().unwrap_or_default().as_bytes();
-    if name.is_empty() || !target.as_os_str().as_bytes().ends_with(name) {
-        return Err(io::Error::other("not the name of a file"));
-    }
+    require_file_name(target)?;
     let found = match fs::symlink_metadata(target) {
         Err(error) if error.kind() == io::ErrorKind::NotFound => return Ok(()),
         found => found?,
@@ -60,7 +59,16 @@ fn require_replaceable(target: &Path) -> io::Result<()> {
     if found.is_file() || (found.is_symlink() && !leads_elsewhere(target)?) {
         return Ok(());
     }
-    Err(io::Error::other("it is there and is not a regular file"))
+    Err(io::Error::other(NOT_A_FILE))
+}
+
+/// Requires a name that a file can have. A slash or a dot after the last name asks for a folder.
+pub fn require_file_name(target: &Path) -> io::Result<()> {
+    let name = target.file_name().unwrap_or_default().as_bytes();
+    match !name.is_empty() && target.as_os_str().as_bytes().ends_with(name) {
+        true => Ok(()),
+        false => Err(io::Error::other("not the name of a file")),
+    }
 }
 
 /// Whether a link leads to what is not a regular file, or into /proc. The latter is how /dev/stdout names a file

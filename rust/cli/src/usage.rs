@@ -6,14 +6,31 @@ use clap::Command;
 use std::error::Error;
 use std::ffi::OsString;
 
-const LIST: &str = "`lyra2 help` lists them";
+/// A command, and how it is called.
+pub struct Named<'a> {
+    /// Its name, after that of the command that it belongs to.
+    pub name: String,
+    pub command: &'a Command,
+}
+
+/// Where the commands are listed that could be meant.
+fn list(command: Option<&Named>) -> String {
+    match command.filter(|command| command.command.has_subcommands()) {
+        Some(command) if command.name != "help" => {
+            format!("`lyra2 help {}` lists them", command.name)
+        }
+        _ => "`lyra2 help` lists them".to_string(),
+    }
+}
 
 /// The failure that an error of clap stands for, with the arguments that were given and the command that they name.
-pub fn failure(error: &clap::Error, arguments: &[OsString], command: Option<&Command>) -> Failure {
+pub fn failure(error: &clap::Error, arguments: &[OsString], command: Option<&Named>) -> Failure {
     let argument = || argument_name(&text(error, ContextKind::InvalidArg));
     Failure::usage(match error.kind() {
-        ErrorKind::DisplayHelpOnMissingArgumentOrSubcommand => format!("no command; {LIST}"),
-        ErrorKind::InvalidSubcommand => unknown_command(error),
+        ErrorKind::DisplayHelpOnMissingArgumentOrSubcommand => {
+            format!("no command; {}", list(command))
+        }
+        ErrorKind::InvalidSubcommand => unknown_command(error, command),
         ErrorKind::UnknownArgument => unknown_argument(error, arguments, command),
         ErrorKind::MissingRequiredArgument => missing(error),
         ErrorKind::ArgumentConflict => conflict(error),
@@ -29,7 +46,7 @@ pub fn failure(error: &clap::Error, arguments: &[OsString], command: Option<&Com
 }
 
 /// What is not in the form of a command's name is not repeated either.
-fn unknown_command(error: &clap::Error) -> String {
+fn unknown_command(error: &clap::Error, command: Option<&Named>) -> String {
     let given = text(error, ContextKind::InvalidSubcommand);
     let is_letter = |letter: char| letter.is_ascii_alphabetic();
     let is_name = given.starts_with(is_letter)
@@ -41,7 +58,7 @@ fn unknown_command(error: &clap::Error) -> String {
         false => "unknown command".to_string(),
     };
     match text(error, ContextKind::SuggestedSubcommand).as_str() {
-        "" => format!("{name}; {LIST}"),
+        "" => format!("{name}; {}", list(command)),
         near => format!("{name}; is {near} meant?"),
     }
 }
@@ -50,7 +67,7 @@ fn unknown_command(error: &clap::Error) -> String {
 fn unknown_argument(
     error: &clap::Error,
     arguments: &[OsString],
-    command: Option<&Command>,
+    command: Option<&Named>,
 ) -> String {
     let given = text(error, ContextKind::InvalidArg);
     if given.starts_with('-') && !is_operand(&given, arguments) {
@@ -61,9 +78,10 @@ fn unknown_argument(
         };
     }
     let Some(command) = command else {
-        return format!("an argument that is no command; {LIST}");
+        return format!("an argument that is no command; {}", list(None));
     };
     let operands: Vec<String> = command
+        .command
         .get_positionals()
         .map(|operand| argument_name(&operand.to_string()))
         .collect();
@@ -71,7 +89,7 @@ fn unknown_argument(
         [] => "options alone".to_string(),
         _ => operands.join(" "),
     };
-    format!("an argument too many; {} takes {due}", command.get_name())
+    format!("an argument too many; {} takes {due}", command.name)
 }
 
 /// The name of an option: clap leaves its value out, but takes letters that are no text for a part of the name.

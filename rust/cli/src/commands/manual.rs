@@ -38,17 +38,19 @@ fn page(program: &mut Command) -> Vec<String> {
     lines.extend(
         commands
             .filter(|command| command.get_name() != "help")
-            .flat_map(command_lines),
+            .flat_map(|command| command_lines(command, "")),
     );
     lines
 }
 
-/// What a command does, how it is called, its operands and options, and what else its help says.
-fn command_lines(command: &mut Command) -> Vec<String> {
+/// What a command does, how it is called, its operands and options, and what else its help says; then the same of its own
+/// commands, whose names stand after its name.
+fn command_lines(command: &mut Command, above: &str) -> Vec<String> {
+    let name = format!("{above}{}", command.get_name());
     let usage = command.render_usage().to_string();
     let usage = escaped(usage.trim_start_matches("Usage: "));
     let mut lines = vec![
-        format!(".SS {}", escaped(command.get_name())),
+        format!(".SS {}", escaped(&name)),
         format!("{}.", plain(command.get_about())),
         format!(".PP\n\\fB{usage}\\fR"),
     ];
@@ -59,6 +61,9 @@ fn command_lines(command: &mut Command) -> Vec<String> {
             .map(argument_lines),
     );
     lines.extend(paragraphs(command.get_after_help()));
+    let above = format!("{name} ");
+    let below = command.get_subcommands_mut();
+    lines.extend(below.flat_map(|command| command_lines(command, &above)));
     lines
 }
 

@@ -1,5 +1,6 @@
 //! The list of the commands. Each stands in a module of its own and knows none of the others.
 
+mod book;
 mod check;
 mod choose;
 mod compare;
@@ -14,7 +15,7 @@ mod walk;
 
 use crate::failure::Failure;
 use crate::outcome::Outcome;
-use crate::usage;
+use crate::usage::{self, Named};
 use clap::error::ErrorKind;
 use clap::{CommandFactory, FromArgMatches, Parser, Subcommand};
 use std::ffi::OsString;
@@ -36,6 +37,7 @@ enum Command {
     Check(check::Check),
     Line(line::Line),
     Login(login::Login),
+    Book(book::Book),
     Cost(cost::Cost),
     Choose(choose::Choose),
     Walk(walk::Walk),
@@ -52,6 +54,7 @@ impl Command {
             Command::Check(check) => check.run(),
             Command::Line(line) => line.run(),
             Command::Login(login) => login.run(),
+            Command::Book(book) => book.run(),
             Command::Cost(cost) => cost.run(),
             Command::Choose(choose) => choose.run(),
             Command::Walk(walk) => walk.run(),
@@ -67,9 +70,7 @@ impl Command {
 pub fn answer(arguments: &[OsString]) -> Result<Outcome, (Option<String>, Failure)> {
     let mut program = Program::command();
     program.build();
-    let given = arguments.get(1).and_then(|name| name.to_str());
-    let command = given.and_then(|name| program.find_subcommand(name));
-    let name = || command.map(|command| command.get_name().to_string());
+    let command = named(&program, arguments);
     let matches = program.clone().try_get_matches_from(arguments);
     match matches.and_then(|matches| Program::from_arg_matches(&matches)) {
         Ok(program) => program.command.run(),
@@ -77,8 +78,24 @@ pub fn answer(arguments: &[OsString]) -> Result<Outcome, (Option<String>, Failur
             ErrorKind::DisplayHelp | ErrorKind::DisplayVersion => {
                 Ok(Outcome::result(error.to_string()))
             }
-            _ => Err(usage::failure(&error, arguments, command)),
+            _ => Err(usage::failure(&error, arguments, command.as_ref())),
         },
     }
-    .map_err(|failure| (name(), failure))
+    .map_err(|failure| (command.map(|command| command.name), failure))
+}
+
+/// The command that the arguments name, or the command of a command. What `help` is about is no command of its own.
+fn named<'a>(program: &'a clap::Command, arguments: &[OsString]) -> Option<Named<'a>> {
+    let mut names = arguments.iter().skip(1).map_while(|name| name.to_str());
+    let command = program.find_subcommand(names.next()?)?;
+    let name = command.get_name().to_string();
+    let below = names.next().filter(|_| name != "help");
+    let below = below.and_then(|name| command.find_subcommand(name));
+    Some(match below {
+        Some(below) => Named {
+            name: format!("{name} {}", below.get_name()),
+            command: below,
+        },
+        None => Named { name, command },
+    })
 }
