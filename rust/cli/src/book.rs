@@ -11,7 +11,7 @@ use std::io::{self, ErrorKind};
 use std::path::Path;
 
 /// Bytes of a book at most. The time to look through one grows with the square of the number of its accounts.
-const MOST: usize = 1 << 26;
+const MOST: usize = 1 << 24;
 
 /// What a file stands for that is not there.
 #[derive(Clone, Copy, PartialEq)]

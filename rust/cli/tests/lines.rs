@@ -3,12 +3,11 @@
 mod common;
 
 use common::line::{encode, Line};
+use common::system_calls::{on_call, Answer, Which, GETRANDOM, NOT_PERMITTED};
 use common::{command, hex, lyra2, words, Run, TemporaryFile};
-use std::ffi::{c_int, c_ulong, c_void};
 use std::fs::File;
 use std::io::Seek;
 use std::os::unix::fs::PermissionsExt;
-use std::os::unix::process::CommandExt;
 use std::process::{Command, Stdio};
 
 const COSTS: &str = "--time 1 --rows 4 --columns 2";
@@ -99,41 +98,6 @@ fn without_a_given_salt_it_is_random() {
     }
 }
 
-/// Lets a program have random bytes no more: the system answers its requests for them with an error.
-fn forbid_random_bytes(command: &mut Command) {
-    /// An instruction of a filter of system calls.
-    #[repr(C)]
-    struct Instruction(u16, u8, u8, u32);
-    #[repr(C)]
-    struct Filter(u16, *const Instruction);
-    extern "C" {
-        fn prctl(option: c_int, ...) -> c_int;
-    }
-    /// The number of getrandom on x86-64, and the error "Operation not permitted".
-    const GETRANDOM: u32 = 318;
-    const NOT_PERMITTED: u32 = 1;
-    static FILTER: [Instruction; 4] = [
-        Instruction(0x20, 0, 0, 0),
-        Instruction(0x15, 0, 1, GETRANDOM),
-        Instruction(0x06, 0, 0, 0x0005_0000 | NOT_PERMITTED),
-        Instruction(0x06, 0, 0, 0x7fff_0000),
-    ];
-    let forbid = || {
-        let filter = Filter(FILTER.len() as u16, FILTER.as_ptr());
-        let place: *const c_void = (&raw const filter).cast();
-        let [none, one, two]: [c_ulong; 3] = [0, 1, 2];
-        // No new privileges, which a filter asks for, and then the filter.
-        // SAFETY: both calls only read, and the filter lives until they return.
-        let is_set = unsafe { prctl(38, one, none, none, none) == 0 && prctl(22, two, place) == 0 };
-        match is_set {
-            true => Ok(()),
-            false => Err(std::io::Error::last_os_error()),
-        }
-    };
-    // SAFETY: between fork and exec it makes two system calls and nothing else.
-    unsafe { command.pre_exec(forbid) };
-}
-
 #[test]
 fn without_a_random_source_there_is_no_line() {
     let run = |options: &str| {
@@ -141,13 +105,9 @@ fn without_a_random_source_there_is_no_line() {
         program
             .args(words(&format!("line {COSTS} --key-length 32 {options}")))
             .stdin(Stdio::null());
-        forbid_random_bytes(&mut program);
-        let ended = program.output().expect("the program starts");
-        Run {
-            status: ended.status.code(),
-            output: String::from_utf8(ended.stdout).expect("text"),
-            error: String::from_utf8(ended.stderr).expect("text"),
-        }
+        let error = Answer::Error(NOT_PERMITTED);
+        on_call(&mut program, GETRANDOM, Which::All, error);
+        Run::of(program.output().expect("the program starts"))
     };
     for options in ["", "--salt-length 8"] {
         let due = "lyra2 line: random source: Operation not permitted (os error 1)";

@@ -3,81 +3,39 @@
 mod common;
 
 use common::end_state::EndState;
+use common::folder::Folder;
 use common::{command, lyra2, words, Run};
 use std::fs;
 use std::os::unix::fs::{symlink, PermissionsExt};
 use std::os::unix::net::UnixListener;
-use std::path::{Path, PathBuf};
 use std::process::Command;
-use std::sync::atomic::{AtomicU64, Ordering};
 
 const OLD: &[u8] = &[7; 10_000];
 
-/// A folder of this test's own, removed when dropped. It lies in the folder that the program runs in.
-struct Folder {
-    name: String,
+/// The arguments of a trial with this output.
+fn trial(folder: &Folder, output: &str, rows: u32) -> String {
+    let costs = format!("--time 1 --rows {rows} --columns 1 --key-length 8");
+    let salt = "--salt 0011223344556677";
+    format!("trial {salt} {costs} --output {}/{output}", folder.name)
 }
 
-impl Folder {
-    fn new() -> Folder {
-        static COUNT: AtomicU64 = AtomicU64::new(0);
-        let count = COUNT.fetch_add(1, Ordering::Relaxed);
-        let folder = Folder {
-            name: format!("output-{}-{count}", std::process::id()),
-        };
-        fs::create_dir(folder.path("")).expect("the target folder can be written");
-        folder
-    }
-
-    fn path(&self, name: &str) -> PathBuf {
-        let target = Path::new(env!("CARGO_TARGET_TMPDIR"));
-        target.join(&self.name).join(name)
-    }
-
-    /// The names in it; a trial may leave none but its output.
-    fn names(&self) -> Vec<String> {
-        let entries = fs::read_dir(self.path("")).expect("the folder is there");
-        let name = |entry: std::io::Result<fs::DirEntry>| entry.expect("an entry").file_name();
-        let mut names: Vec<String> = entries
-            .map(|entry| name(entry).into_string().expect("text"))
-            .collect();
-        names.sort();
-        names
-    }
-
-    /// The arguments of a trial with this output.
-    fn trial(&self, output: &str, rows: u32) -> String {
-        let costs = format!("--time 1 --rows {rows} --columns 1 --key-length 8");
-        let salt = "--salt 0011223344556677";
-        format!("trial {salt} {costs} --output {}/{output}", self.name)
-    }
-
-    fn run_trial(&self, output: &str) -> Run {
-        lyra2(&words(&self.trial(output, 3)), b"pass")
-    }
-
-    /// Whether the name is a regular file with an end state that its owner alone may read and write.
-    fn holds_end_state(&self, name: &str) -> bool {
-        let path = self.path(name);
-        let found = path.symlink_metadata().expect("the file is there");
-        let bytes = fs::read(path).expect("the file can be read");
-        found.is_file()
-            && found.permissions().mode() & 0o7777 == 0o600
-            && EndState::read(&bytes).r == 3
-    }
+fn run_trial(folder: &Folder, output: &str) -> Run {
+    lyra2(&words(&trial(folder, output, 3)), b"pass")
 }
 
-impl Drop for Folder {
-    fn drop(&mut self) {
-        let _ = fs::remove_dir_all(self.path(""));
-    }
+/// Whether the name is a regular file with an end state that its owner alone may read and write.
+fn holds_end_state(folder: &Folder, name: &str) -> bool {
+    let path = folder.path(name);
+    let found = path.symlink_metadata().expect("the file is there");
+    let bytes = fs::read(path).expect("the file can be read");
+    found.is_file() && found.permissions().mode() & 0o7777 == 0o600 && EndState::read(&bytes).r == 3
 }
 
 #[test]
 fn a_new_file_is_its_owners_alone() {
     let folder = Folder::new();
-    folder.run_trial("end").result();
-    assert!(folder.holds_end_state("end"));
+    run_trial(&folder, "end").result();
+    assert!(holds_end_state(&folder, "end"));
     assert_eq!(folder.names(), ["end"]);
 }
 
@@ -90,8 +48,8 @@ fn a_file_that_others_may_read_is_replaced_by_one_that_they_may_not() {
         fs::set_permissions(folder.path("end"), rights).expect("our file");
         // Another name of the old file, which keeps what it held.
         fs::hard_link(folder.path("end"), folder.path("old")).expect("a second name");
-        folder.run_trial("end").result();
-        assert!(folder.holds_end_state("end"), "{mode:o}");
+        run_trial(&folder, "end").result();
+        assert!(holds_end_state(&folder, "end"), "{mode:o}");
         assert_eq!(fs::read(folder.path("old")).expect("the old file"), OLD);
         assert_eq!(folder.names(), ["end", "old"]);
         fs::remove_file(folder.path("old")).expect("our file");
@@ -103,13 +61,13 @@ fn a_link_is_replaced_and_what_it_leads_to_is_left_alone() {
     let folder = Folder::new();
     fs::write(folder.path("file"), OLD).expect("a file");
     symlink("file", folder.path("end")).expect("a link");
-    folder.run_trial("end").result();
-    assert!(folder.holds_end_state("end"));
+    run_trial(&folder, "end").result();
+    assert!(holds_end_state(&folder, "end"));
     assert_eq!(fs::read(folder.path("file")).expect("the file"), OLD);
 
     symlink("nothing", folder.path("lost")).expect("a link");
-    folder.run_trial("lost").result();
-    assert!(folder.holds_end_state("lost"));
+    run_trial(&folder, "lost").result();
+    assert!(holds_end_state(&folder, "lost"));
     assert_eq!(folder.names(), ["end", "file", "lost"]);
 }
 
@@ -130,7 +88,7 @@ fn what_is_not_a_file_is_refused() {
     }
     let before = folder.names();
     for name in &before {
-        let line = folder.run_trial(name).failure();
+        let line = run_trial(&folder, name).failure();
         let place = format!("{}/{name}", folder.name);
         let due = format!("lyra2 trial: {place:?}: it is there and is not a regular file");
         assert_eq!(line, due);
@@ -146,7 +104,7 @@ fn the_link_of_an_open_file_is_refused() {
     symlink("/proc/self/fd/1", folder.path("stdout")).expect("a link");
     fs::write(folder.path("password"), b"pass").expect("a file");
     let ended = command()
-        .args(words(&folder.trial("stdout", 3)))
+        .args(words(&trial(&folder, "stdout", 3)))
         .stdin(fs::File::open(folder.path("password")).expect("the file"))
         .stdout(fs::File::create(folder.path("out")).expect("a file"))
         .status();
@@ -159,7 +117,7 @@ fn the_link_of_an_open_file_is_refused() {
 fn a_refused_trial_leaves_what_was_there() {
     let folder = Folder::new();
     fs::write(folder.path("end"), OLD).expect("a file");
-    let line = lyra2(&words(&folder.trial("end", 2)), b"pass").failure();
+    let line = lyra2(&words(&trial(&folder, "end", 2)), b"pass").failure();
     let due = "lyra2 trial: refused 5: the number of rows R must be 3 to 16384";
     assert_eq!(line, due);
     assert_eq!(fs::read(folder.path("end")).expect("the file"), OLD);
@@ -175,17 +133,13 @@ fn on_a_full_disk(arguments: &str) -> Run {
         .current_dir(env!("CARGO_TARGET_TMPDIR"))
         .output()
         .expect("a shell");
-    Run {
-        status: ended.status.code(),
-        output: String::from_utf8(ended.stdout).expect("text"),
-        error: String::from_utf8(ended.stderr).expect("text"),
-    }
+    Run::of(ended)
 }
 
 #[test]
 fn a_write_that_fails_leaves_what_was_there_and_nothing_else() {
     let folder = Folder::new();
-    let arguments = folder.trial("end", 1000);
+    let arguments = trial(&folder, "end", 1000);
     let due = format!(
         "lyra2 trial: \"{}/end\": File too large (os error 27)",
         folder.name

@@ -1,13 +1,16 @@
 //! Running the program, and files for it to read.
 #![allow(dead_code)]
 
+pub mod book;
 pub mod end_state;
+pub mod folder;
 pub mod line;
+pub mod system_calls;
 pub mod terminal;
 
 use std::io::Write;
 use std::path::PathBuf;
-use std::process::{Command, Stdio};
+use std::process::{Command, Output, Stdio};
 use std::sync::atomic::{AtomicU64, Ordering};
 
 /// What a run of the program came to.
@@ -48,15 +51,19 @@ pub fn lyra2<A: AsRef<std::ffi::OsStr>>(arguments: &[A], input: &[u8]) -> Run {
         .expect("the program starts");
     // A program that is asked wrongly ends without a look at its input.
     let _ = child.stdin.take().expect("a pipe").write_all(input);
-    let ended = child.wait_with_output().expect("the program ends");
-    Run {
-        status: ended.status.code(),
-        output: String::from_utf8(ended.stdout).expect("text"),
-        error: String::from_utf8(ended.stderr).expect("text"),
-    }
+    Run::of(child.wait_with_output().expect("the program ends"))
 }
 
 impl Run {
+    /// What a process came to that has ended.
+    pub fn of(ended: Output) -> Run {
+        Run {
+            status: ended.status.code(),
+            output: String::from_utf8(ended.stdout).expect("text"),
+            error: String::from_utf8(ended.stderr).expect("text"),
+        }
+    }
+
     /// The output of a run that has a result.
     #[track_caller]
     pub fn result(self) -> String {

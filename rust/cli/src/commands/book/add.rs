@@ -52,7 +52,8 @@ impl Add {
         };
         let path = &self.book.book;
         let is_there = book::change(path, ACCOUNT_MAX, Missing::Empty, |book| {
-            let is_there = book.find(number).is_ok();
+            // Adding looks whether the book is in order, and does not tell whether it replaces.
+            let is_there = book.accounts().any(|(_, account)| account.number == number);
             book.add(account)?;
             Ok(is_there)
         })?;
