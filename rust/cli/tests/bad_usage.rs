@@ -9,6 +9,7 @@ use std::process::Stdio;
 const DERIVE: &str = "derive --salt 0011223344556677 --time 1 --rows 3 --columns 1 --key-length 8";
 const CHECK: &str = "check --salt 0011223344556677 --time 1 --rows 3 --columns 1";
 const LINE: &str = "line --time 1 --rows 3 --columns 1 --key-length 8";
+const ADD: &str = "book add --book x --number 1 --time 1 --rows 3 --columns 1 --key-length 8";
 const COST: &str = "cost --time 1 --rows 3 --columns 1 --key-length 8 --salt-length 8";
 const CHOOSE: &str = "choose --words 36 --budget 999 --key-length 8";
 
@@ -42,6 +43,64 @@ fn commands() {
     says(
         "completions tcsh",
         "lyra2 completions: SHELL: one of bash, elvish, fish, powershell, zsh is due",
+    );
+}
+
+/// The commands of a book have names of two words.
+#[test]
+fn commands_of_a_book() {
+    says(
+        "book",
+        "lyra2 book: no command; `lyra2 help book` lists them",
+    );
+    says(
+        "book keep",
+        "lyra2 book: unknown command \"keep\"; `lyra2 help book` lists them",
+    );
+    says(
+        "book ad",
+        "lyra2 book: unknown command \"ad\"; is add meant?",
+    );
+    says(
+        "add",
+        "lyra2: unknown command \"add\"; `lyra2 help` lists them",
+    );
+    says(
+        "help book keep",
+        "lyra2 help: unknown command \"keep\"; `lyra2 help` lists them",
+    );
+    says("book --book x", "lyra2 book: unknown option \"--book\"");
+    says(
+        &format!("{ADD} 7"),
+        "lyra2 book add: an argument too many; book add takes options alone",
+    );
+    says(
+        "book check --book x",
+        "lyra2 book check: --number is missing",
+    );
+    says("book list", "lyra2 book list: --book is missing");
+    says(
+        "book remove --number 1 --number 2 --book x",
+        "lyra2 book remove: --number is given twice",
+    );
+    says(
+        &format!("{ADD} --salt 00 --salt-length 8"),
+        "lyra2 book add: --salt and --salt-length are both given",
+    );
+}
+
+#[test]
+fn numbers_of_accounts() {
+    let says = |number: &str, words: &str| {
+        let due = format!("lyra2 book remove: --number: {words}");
+        says(&format!("book remove --book x --number {number}"), &due);
+    };
+    says("-1", "\"-1\" is not a number in decimal digits");
+    says("0x1", "\"0x1\" is not a number in decimal digits");
+    says("4294967296", "4294967296 has more than 32 bits");
+    says(
+        "18446744073709551616",
+        "18446744073709551616 has more than 64 bits",
     );
 }
 
@@ -103,11 +162,16 @@ fn options() {
         ("login --line-file x", "--rounds"),
         ("login --line-file x", "--rotation"),
         ("login --line-file x", "--mixer"),
+        (ADD, "--rounds"),
+        (ADD, "--rotation"),
+        (ADD, "--mixer"),
+        ("book check --book x --number 1", "--mixer"),
         (COST, "--rotation"),
         (CHOOSE, "--rotation"),
     ] {
         let found = lyra2(&words(&format!("{line} {option} 2")), b"pass").failure();
-        let due = format!("lyra2 {}: unknown option {option:?}", words(line)[0]);
+        let name = line.split(" --").next().expect("a name");
+        let due = format!("lyra2 {name}: unknown option {option:?}");
         assert!(found.starts_with(&due), "{found}");
     }
 }
@@ -244,6 +308,14 @@ fn secrets_in_the_wrong_place() {
         format!("{LINE} --salt hunter2"),
         "login --line-file x hunter2".to_string(),
         "login --line hunter2".to_string(),
+        format!("{ADD} hunter2"),
+        format!("{ADD} --password hunter2"),
+        format!("{ADD} -- --hunter2"),
+        "book check --book x --number 1 hunter2".to_string(),
+        "book check hunter2 --book x --number 1".to_string(),
+        "book hunter2".to_string(),
+        "book -phunter2 check".to_string(),
+        "help book hunter2".to_string(),
         "walk 8 3 hunter2".to_string(),
         "compare one two hunter2".to_string(),
         "compare one two -- --hunter2".to_string(),

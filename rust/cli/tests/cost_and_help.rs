@@ -4,11 +4,17 @@ mod common;
 
 use common::{lyra2, words};
 
-const COMMANDS: [&str; 11] = [
+/// The commands, and after each its own.
+const COMMANDS: [&str; 16] = [
     "derive",
     "check",
     "line",
     "login",
+    "book",
+    "book list",
+    "book add",
+    "book remove",
+    "book check",
     "cost",
     "choose",
     "walk",
@@ -17,6 +23,11 @@ const COMMANDS: [&str; 11] = [
     "completions",
     "manual",
 ];
+
+/// The help of a command.
+fn help_of(command: &str) -> String {
+    lyra2(&words(&format!("help {command}")), b"").result()
+}
 
 fn cost(time: usize, rows: usize, columns: usize) -> String {
     cost_with(time, rows, columns, "")
@@ -120,13 +131,18 @@ fn every_command_has_its_help_three_ways() {
         assert_eq!(lyra2(&[flag], b"").result(), list);
     }
     for command in COMMANDS {
-        assert!(list.contains(&format!("\n  {command} ")), "{command}");
-        let help = lyra2(&["help", command], b"").result();
+        let (list, name) = match command.split_once(' ') {
+            Some((above, name)) => (help_of(above), name),
+            None => (list.clone(), command),
+        };
+        assert!(list.contains(&format!("\n  {name} ")), "{command}");
+        let help = help_of(command);
         let usage = format!("\n\nUsage: lyra2 {command}");
         assert!(help.contains(&usage), "{help}");
         assert!(help.contains("Exit status: 0 for"), "{help}");
         for flag in ["--help", "-h"] {
-            assert_eq!(lyra2(&[command, flag], b"").result(), help);
+            let line = format!("{command} {flag}");
+            assert_eq!(lyra2(&words(&line), b"").result(), help);
         }
     }
 }
@@ -136,12 +152,13 @@ fn every_command_has_its_help_three_ways() {
 fn the_help_names_the_options_that_there_are() {
     let options =
         "password-file salt salt-file time rows columns rounds rotation mixer key-length key \
-                   key-file output password-length salt-length line-file memory words budget seconds column-counts";
+                   key-file output password-length salt-length line-file memory words budget seconds column-counts book number";
     for command in COMMANDS {
-        let help = lyra2(&["help", command], b"").result();
+        let help = help_of(command);
         for option in words(options) {
             let named = help.contains(&format!("\n      --{option} "));
-            let line = lyra2(&[command, &format!("--{option}")], b"").failure();
+            let line = format!("{command} --{option}");
+            let line = lyra2(&words(&line), b"").failure();
             let known = line == format!("lyra2 {command}: --{option} has no value");
             assert_eq!(named, known, "{command} --{option}: {line}");
         }
@@ -162,14 +179,15 @@ fn the_manual_page_has_what_the_help_has() {
     assert_eq!(parts.len(), 1 + COMMANDS.len());
     for (command, part) in COMMANDS.into_iter().zip(&parts[1..]) {
         assert!(part.starts_with(&format!("{command}\n")), "{part}");
-        let help = lyra2(&["help", command], b"").result();
+        let help = help_of(command);
         let summary = help.lines().next().expect("a first line");
         assert!(part.contains(&format!("\n{summary}.\n")), "{part}");
         for option in options_of(&help) {
             assert!(part.contains(&format!("\n\\fB{option}\\fR ")), "{option}");
         }
     }
-    assert!(options_of(&lyra2(&["help", "check"], b"").result()).contains(&"--key-file"));
+    assert!(options_of(&help_of("check")).contains(&"--key-file"));
+    assert!(options_of(&help_of("book add")).contains(&"--number"));
 }
 
 /// Wherever there is a default, help and manual page say it.
@@ -180,7 +198,7 @@ fn the_usual_settings_are_said() {
     let (rounds, rotation) = ("1 to 12 [default: 1]", "1 to 11 [default: 2]");
     let (mixers, mixer) = ("The mixer, plain or blamka,", "[default: plain]");
     for (command, part) in COMMANDS.into_iter().zip(parts) {
-        let help = lyra2(&["help", command], b"").result();
+        let help = help_of(command);
         let has_all = ["derive", "check", "trial"].contains(&command);
         for text in [help.as_str(), part] {
             // Without the ends of lines, which depend on the width of the column.
@@ -198,10 +216,10 @@ fn the_usual_settings_are_said() {
 fn completions_name_every_command() {
     for shell in ["bash", "elvish", "fish", "powershell", "zsh"] {
         let script = lyra2(&["completions", shell], b"").result();
-        for command in COMMANDS {
-            assert!(script.contains(command), "{shell}: {command}");
+        for name in COMMANDS.into_iter().flat_map(words) {
+            assert!(script.contains(name), "{shell}: {name}");
         }
-        for option in ["key-length", "rounds", "rotation", "mixer"] {
+        for option in ["key-length", "rounds", "rotation", "mixer", "number"] {
             assert!(script.contains(option), "{shell}: {option}");
         }
         // Not every shell's script completes values.

@@ -45,6 +45,36 @@ fn a_typed_password_is_not_shown_and_asked_for_twice() {
     }
 }
 
+/// For an account it is asked for twice, for a check of one once; a book that is refused is not typed for.
+#[test]
+fn the_password_of_an_account_is_typed() {
+    let file = TemporaryFile::new();
+    let of_book = format!("--book {} --number 7", file.name());
+    let add = format!("lyra2 book add {of_book} --time 1 --rows 4 --columns 2 --key-length 32");
+    let secret = b"secret\n";
+    let found = typed(&add, &[(FIRST, secret), (SECOND, secret)]);
+    let shown = format!("{FIRST}\n{SECOND}\naccount 7 added\n");
+    assert_eq!(found, (Some(0), shown));
+    let check = format!("lyra2 book check {of_book}");
+    for (line, status, word) in [(&secret[..], 0, "yes"), (b"other\n", 1, "no")] {
+        let found = typed(&check, &[(FIRST, line)]);
+        assert_eq!(found, (Some(status), format!("{FIRST}\n{word}\n")));
+    }
+    let before = file.bytes();
+    let found = typed(&add, &[(FIRST, secret), (SECOND, b"Secret\n")]);
+    assert_eq!(found.0, Some(2));
+    assert_eq!(file.bytes(), before);
+    std::fs::write(file.path(), b"no book").expect("our file");
+    for command in [&add, &check] {
+        let (status, shown) = typed(command, &[]);
+        assert_eq!(status, Some(2));
+        assert!(
+            shown.contains("refused 17") && !shown.contains(FIRST),
+            "{shown}"
+        );
+    }
+}
+
 /// A terminal shows what is typed, before the program runs and after it.
 #[test]
 fn the_terminal_shows_again_what_is_typed() {

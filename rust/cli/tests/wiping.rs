@@ -246,6 +246,21 @@ fn of_a_login_nothing_is_left() {
     assert_eq!(left, NOTHING);
 }
 
+/// The account's own key is in the book while it is added or checked, and so are its neighbours'.
+#[test]
+fn of_a_book_nothing_is_left() {
+    let file = TemporaryFile::new();
+    let of_book = format!("--book {} --number 7", file.name());
+    let add = line("book add", &of_book);
+    assert_eq!(left_by(&add, PASSWORD, "account 7 added\n"), NOTHING);
+    let check = format!("book check {of_book}");
+    assert_eq!(left_by(&check, PASSWORD, file.name()), NOTHING);
+    let list = format!("book list --book {}", file.name());
+    assert_eq!(left_by(&list, b"", "account 7: time 1"), NOTHING);
+    let remove = format!("book remove {of_book}");
+    assert_eq!(left_by(&remove, b"", "account 7 removed\n"), NOTHING);
+}
+
 /// The shell says its number and becomes the program, whose output is the full pipe.
 #[test]
 fn of_a_typed_password_nothing_is_left() {
