@@ -6,8 +6,8 @@ use common::end_state::{summed, EndState};
 use common::line::{encode, Line};
 use common::{hex, lyra2, words, TemporaryFile};
 use lyra2_reference::refusal::{
-    CHOICE_CHECKS, COST_CHECKS, LINE_READ_CHECKS, LINE_WRITE_CHECKS, PLAIN_CHECKS, RECORDED_CHECKS,
-    WALK_CHECKS,
+    BOOK_ADD_CHECKS, BOOK_CHECK_CHECKS, BOOK_FIND_CHECKS, CHOICE_CHECKS, COST_CHECKS,
+    LINE_READ_CHECKS, LINE_WRITE_CHECKS, PLAIN_CHECKS, RECORDED_CHECKS, WALK_CHECKS,
 };
 use lyra2_reference::{derive, Inputs, Refusal, Settings};
 use std::collections::BTreeMap;
@@ -74,6 +74,10 @@ fn the_orders_of_the_checks_are_the_second_programs() {
         ("walk", WALK_CHECKS),
         ("line_read", LINE_READ_CHECKS),
         ("line_write", LINE_WRITE_CHECKS),
+        ("book_find", BOOK_FIND_CHECKS),
+        ("book_add", BOOK_ADD_CHECKS),
+        ("book_remove", BOOK_FIND_CHECKS),
+        ("book_check", BOOK_CHECK_CHECKS),
     ]
     .map(|(name, checks)| (name.to_string(), listed(checks)))
     .into();
@@ -81,12 +85,12 @@ fn the_orders_of_the_checks_are_the_second_programs() {
     assert_eq!(orders(&header, " *     ", "  "), due);
     let page = document("vectors/README.md");
     assert_eq!(orders(&page, "| `", " | "), due);
-    let code =
-        ["operations", "choice", "line"].map(|name| document(&format!("rust/lyra2/src/{name}.rs")));
+    let code = ["operations", "choice", "line", "book"]
+        .map(|name| document(&format!("rust/lyra2/src/{name}.rs")));
     let comments = code.concat();
     let comments = comments
         .lines()
-        .filter_map(|line| line.strip_prefix("/// "));
+        .filter_map(|line| line.trim_start().strip_prefix("/// "));
     let comments = comments.collect::<Vec<_>>().join(" ");
     for checks in [
         RECORDED_CHECKS,
@@ -95,6 +99,9 @@ fn the_orders_of_the_checks_are_the_second_programs() {
         CHOICE_CHECKS,
         LINE_READ_CHECKS,
         LINE_WRITE_CHECKS,
+        BOOK_FIND_CHECKS,
+        BOOK_ADD_CHECKS,
+        BOOK_CHECK_CHECKS,
     ] {
         let sentence = format!("in the order of the checks: {}.", listed(checks));
         assert!(comments.contains(&sentence), "{sentence}");

@@ -1,15 +1,18 @@
 //! The vectors file put to the program, wherever the command line can ask the question.
 //!
 //! The program lends buffers that fit, so it is never refused with 7, 8 or 12; those lines and the eight that lend
-//! 400 MB are left out. It writes no line but of a key that it has derived.
+//! 400 MB are left out. It writes no line and no account but of a key that it has derived, and it looks at a book before it
+//! asks for a password.
 
 mod common;
 
 use common::end_state::{mixer_number, EndState};
 use common::{hex, lyra2, Run, TemporaryFile};
 use lyra2_reference::vectors::write::mixer_name;
-use lyra2_reference::vectors::{checksum, read, Answer, Case, Given, NamedSettings, Question};
-use lyra2_reference::{check, Counts, Inputs, Refusal, Settings};
+use lyra2_reference::vectors::{
+    checksum, read, Answer, Case, Given, LentBook, NamedSettings, Question,
+};
+use lyra2_reference::{book_find, check, Counts, Inputs, Refusal, Settings};
 
 const FILE: &str = concat!(env!("CARGO_MANIFEST_DIR"), "/../../vectors/lyra2.txt");
 /// A matrix of more words belongs to the lines that lend 400 MB.
@@ -308,4 +311,92 @@ fn lines_to_log_in_with() {
         answered += 1;
     }
     assert!(refused >= 300 && answered >= 50, "{refused} {answered}");
+}
+
+/// A file of the used bytes; None where there are not as many.
+fn file_of(book: &LentBook) -> Option<TemporaryFile> {
+    let used = book.bytes.get(..usize::try_from(book.used).ok()?)?;
+    Some(TemporaryFile::holding(used))
+}
+
+#[test]
+fn accounts_to_remove() {
+    let cases = cases(|question| matches!(question, Question::BookRemove { .. }));
+    let (mut refused, mut removed) = (0, 0);
+    for case in &cases {
+        let Question::BookRemove { book, number } = &case.question else {
+            continue;
+        };
+        let Some(file) = file_of(book) else {
+            continue;
+        };
+        let before = file.bytes();
+        let of_book = [
+            format!("--book={}", file.name()),
+            format!("--number={number}"),
+        ];
+        let arguments = [&["book".to_string(), "remove".to_string()], &of_book[..]].concat();
+        let run = lyra2(&arguments, b"");
+        if let Answer::Changed {
+            used_after,
+            book_after,
+        } = &case.answer
+        {
+            assert_eq!(run.result(), format!("account {number} removed\n"));
+            let due = &book_after[..*used_after as usize];
+            assert_eq!(file.bytes(), due, "case {}", case.number);
+            removed += 1;
+        } else {
+            assert!(is_refused(&run, &case.answer, case.number));
+            assert_eq!(file.bytes(), before, "case {}", case.number);
+            refused += 1;
+        }
+    }
+    assert!(refused >= 30 && removed >= 30, "{refused} {removed}");
+}
+
+/// A password that is too long is refused after the book is looked at, so lines that are refused for it are left out
+/// unless nothing is wrong with the book.
+#[test]
+fn accounts_to_check() {
+    let cases = cases(|question| matches!(question, Question::BookCheck { .. }));
+    let (mut refused, mut answered) = (0, 0);
+    for case in &cases {
+        let Question::BookCheck {
+            password,
+            book,
+            number,
+            ..
+        } = &case.question
+        else {
+            continue;
+        };
+        let Some(file) = file_of(book) else {
+            continue;
+        };
+        if case.answer == Answer::Refused(Refusal::PasswordLength)
+            && book_find(&book.bytes, book.used, *number).is_err()
+        {
+            continue;
+        }
+        let password = TemporaryFile::holding(&password.to_vec());
+        let arguments = [
+            "book".to_string(),
+            "check".to_string(),
+            format!("--book={}", file.name()),
+            format!("--number={number}"),
+            format!("--password-file={}", password.name()),
+        ];
+        let run = lyra2(&arguments, b"");
+        if let Answer::Checked { matches, .. } = case.answer {
+            let (status, output) = if matches { (0, "yes\n") } else { (1, "no\n") };
+            let found = (run.status, run.output.as_str(), run.error.as_str());
+            assert_eq!(found, (Some(status), output, ""), "case {}", case.number);
+            answered += 1;
+        } else {
+            assert!(is_refused(&run, &case.answer, case.number));
+            refused += 1;
+        }
+    }
+    assert!(refused >= 15 && answered >= 40, "{refused} {answered}");
 }
