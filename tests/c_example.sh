@@ -174,4 +174,37 @@ for arguments in '' 288 '288 996 1 1' 'x 996' '288 996x' '-288 996' '288 996 x' 
     same "status of '$arguments'" 2 "$status"
     grep -q '^usage: ' "$work/log" || { echo "no usage for '$arguments'"; exit 1; }
 done
-echo "the C examples print the key $key, its login line and a choice of costs, and refuse with their sentences"
+
+# ---- the example of a book: what it does one after the other, and each refusal of an account
+cc "${flags[@]}" examples/account_book.c "$library" -o "$work/book"
+book() { # WHAT STATUS DUE PASSWORD ARGUMENT..
+    local status=0 found
+    found=$(printf '%s' "$4" | "$work/book" "${@:5}" 2>&1) || status=$?
+    same "$1" "$3" "$found"
+    same "status of $1" "$2" "$status"
+}
+shown=$(cat examples/account_book.out)
+book 'the book' 0 "$shown" "$password" "${numbers[@]}"
+while IFS= read -r line; do
+    grep -qF "    $line" docs/LINKING.md || { echo "docs/LINKING.md does not show '$line'"; exit 1; }
+done <<<"$shown"
+smaller=$(sed 's/\b62\b/23/g; s/\b124\b/46/g; s/time 1, rows 256, columns 64, salt of 16/time 0, rows 3, columns 1, salt of 8/; s/key of 32/key of 1/' <<<"$shown")
+book 'the smallest accounts' 0 "$smaller" "$password" saltsalt 0 3 1 1
+largest=$(sed 's/\b62\b/1102/g; s/\b124\b/2204/g; s/time 1, rows 256, columns 64, salt of 16/time 1, rows 3, columns 1, salt of 64/; s/key of 32/key of 1024/' <<<"$shown")
+book 'the largest accounts' 0 "$largest" "$password" "$(printf '%064d' 0)" 1 3 1 1024
+book 'a key of 0 bytes' 1 'refused 1: the key has to have 1 to 1024 bytes' "$password" saltsalt 1 3 1 0
+book 'a long password' 1 'refused 2: the password may have at most 1024 bytes' "$(printf '%01025d' 0)" saltsalt 1 3 1 32
+book 'no salt' 1 'refused 3: the salt has to have at least 8 bytes' "$password" '' 1 3 1 32
+book 'a long salt' 1 'refused 10: the salt may have at most 64 bytes' "$password" "$(printf '%0100d' 0)" 1 3 1 32
+book 'a large time' 1 'refused 4: the time cost may be at most 255' "$password" saltsalt 256 3 1 32
+book 'few rows' 1 'refused 5: the number of rows has to be 3 to 16384' "$password" saltsalt 1 2 1 32
+book 'no columns' 1 'refused 6: the number of columns has to be 1 to 256' "$password" saltsalt 1 3 0 32
+for arguments in '' 'saltsalt 1 3 1' 'saltsalt 1 3 1 32 1' 'saltsalt x 3 1 32' 'saltsalt 1 3 1 32x'; do
+    status=0
+    # The words are the arguments.
+    # shellcheck disable=SC2086
+    "$work/book" $arguments </dev/null >"$work/out" 2>"$work/log" || status=$?
+    same "status of '$arguments'" 2 "$status"
+    grep -q '^usage: ' "$work/log" || { echo "no usage for '$arguments'"; exit 1; }
+done
+echo "the C examples print the key $key, its login line, a choice of costs and a book's accounts, and refuse with their sentences"

@@ -23,6 +23,7 @@ listed='0755 bin/lyra2
 0644 lib/pkgconfig/lyra2.pc
 0644 share/bash-completion/completions/lyra2
 0644 share/doc/lyra2/LICENSE
+0644 share/doc/lyra2/account_book.c
 0644 share/doc/lyra2/choose_costs.c
 0644 share/doc/lyra2/derive_and_check.c
 0644 share/doc/lyra2/installed.txt
@@ -44,7 +45,7 @@ same 'what the install says' "$(sed "s|^[0-7]* |installed $prefix/|" <<<"$listed
 cmp "$root/target/staticlib/libderivation_export.a" "$prefix/lib/liblyra2.a"
 cmp "$root/include/lyra2.h" "$prefix/include/lyra2.h"
 cmp "$root/LICENSE" "$prefix/share/doc/lyra2/LICENSE"
-for example in derive_and_check login_line choose_costs; do
+for example in derive_and_check login_line choose_costs account_book; do
     cmp "$root/examples/$example.c" "$prefix/share/doc/lyra2/$example.c"
 done
 while read -r _ file; do
@@ -61,6 +62,8 @@ key=$(printf 'correct horse battery staple' |
 same 'the key of README.md' "$shown" "$key"
 printf 'correct horse' | "$program" line --time 1 --rows 64 --columns 16 --key-length 32 --output line
 same 'a login' yes "$(printf 'correct horse' | "$program" login --line-file line)"
+printf 'correct horse' | "$program" book add --book book --number 7 --time 1 --rows 64 --columns 16 --key-length 32 >/dev/null
+same 'an account' yes "$(printf 'correct horse' | "$program" book check --book book --number 7)"
 
 # ---- a C program by pkg-config alone, from under either prefix; of a path with a space the shell has to see the backslashes
 "$install" "$work/plain/../plain/" >/dev/null
@@ -82,6 +85,10 @@ example_prints() { # WHAT
     # shellcheck disable=SC2046
     cc -std=c99 -Wall -Werror $(pkg-config --cflags lyra2) choose_costs.c $(pkg-config --libs lyra2) -o choose
     same 'the C example of a choice of costs' "$(cat "$root/examples/choose_costs.out")" "$(./choose 6291456 1000000)"
+    # shellcheck disable=SC2046
+    cc -std=c99 -Wall -Werror $(pkg-config --cflags lyra2) account_book.c $(pkg-config --libs lyra2) -o accounts
+    same 'the C example of a book' "$(cat "$root/examples/account_book.out")" \
+        "$(printf 'correct horse' | ./accounts 'salt of 16 bytes' 1 256 64 32)"
 )
 export PKG_CONFIG_PATH=$prefix/lib/pkgconfig
 eval "cc -std=c99 -Wall -Werror $(pkg-config --cflags lyra2) derive_and_check.c $(pkg-config --libs lyra2) -o example"
@@ -96,7 +103,7 @@ unset PKG_CONFIG_PATH
 groff -K utf8 -man -rHY=0 -Tutf8 -ww "$prefix/share/man/man1/lyra2.1" >"$work/page" 2>"$work/said"
 same 'warnings about the manual page' '' "$(cat "$work/said")"
 commands=$("$program" help | sed -nE 's/^  ([a-z][a-z-]*)(  .*)?$/\1/p')
-for command in derive check line login cost choose walk trial compare completions manual; do
+for command in derive check line login book cost choose walk trial compare completions manual; do
     grep -qx "$command" <<<"$commands" || { echo "the help does not list $command"; exit 1; }
 done
 # What is bold or underlined has escapes around it, or is struck twice.
@@ -106,6 +113,10 @@ for command in $commands; do
     heading="^ *$command\$"
     [ "$command" != help ] || heading='lyra2 help '
     grep -q -- "$heading" "$work/page" || { echo "the manual page does not name $command"; exit 1; }
+done
+
+for command in list add remove check; do
+    grep -q "^ *book $command\$" "$work/page" || { echo "the manual page does not name book $command"; exit 1; }
 done
 
 # ---- completions: bash offers a command, the others are for this program

@@ -2,6 +2,7 @@
 
 mod common;
 
+use common::book::Account;
 use common::end_state::{summed, EndState};
 use common::line::{encode, Line};
 use common::{hex, lyra2, words, TemporaryFile};
@@ -256,6 +257,70 @@ fn the_letters_of_the_page() {
         due.dedup();
         assert_eq!(named, due);
     }
+}
+
+#[test]
+fn the_example_of_a_book() {
+    let text = document("docs/ACCOUNT-BOOKS.md");
+    let password = "correct horse battery staple";
+    let account = Account::of_password(
+        258,
+        password.as_bytes(),
+        [1, 1024, 64],
+        b"0123456789abcdef",
+        32,
+    );
+    let mut shown = Vec::new();
+    for (offset, part) in shown_bytes(&text) {
+        assert_eq!(offset, shown.len());
+        shown.extend(part);
+    }
+    assert_eq!(shown, account.bytes());
+    let file = TemporaryFile::new();
+    let run = |line: &str| {
+        let line = line.replace("--book book", &format!("--book {}", file.name()));
+        assert!(line.contains(file.name()));
+        lyra2(&words(&line), password.as_bytes()).result()
+    };
+    let [add, check] = commands(&text, password)[..] else {
+        panic!("two commands are due");
+    };
+    for (line, bytes) in [(add, &shown), (check, &shown)] {
+        let printed = run(line);
+        assert!(text.contains(&format!("prints `{}`", printed.trim_end())));
+        assert_eq!(&file.bytes(), bytes);
+    }
+    let listed = run("book list --book book");
+    assert_eq!(listed, account.line());
+    assert!(text.contains(&format!("    {listed}")));
+}
+
+/// The rows of the page's table start with the refusal's number and end with the book.
+#[test]
+fn the_refused_books_of_the_page() {
+    let text = document("docs/ACCOUNT-BOOKS.md");
+    let rows = text.lines().filter_map(|row| {
+        let (_, digits) = row.strip_prefix("| 17 | ")?.split_once(" | `")?;
+        Some(digits.strip_suffix("` |")?.replace(' ', ""))
+    });
+    let books: Vec<Vec<u8>> = rows
+        .map(|digits| {
+            let pairs = digits.as_bytes().chunks(2);
+            let text = |pair| std::str::from_utf8(pair).expect("ASCII");
+            pairs
+                .map(|pair| u8::from_str_radix(text(pair), 16).expect("a byte"))
+                .collect()
+        })
+        .collect();
+    assert!(books.len() >= 10);
+    for book in &books {
+        let file = TemporaryFile::holding(book);
+        let found = lyra2(&["book", "list", "--book", file.name()], b"").failure();
+        assert!(found.contains("refused 17: "), "{book:?}: {found}");
+    }
+    // The damage is all that is wrong with them.
+    let first = TemporaryFile::holding(&[b"A", &books[0][1..]].concat());
+    lyra2(&["book", "list", "--book", first.name()], b"").result();
 }
 
 /// tests/c_example.sh holds the example to this.
