@@ -277,7 +277,7 @@ fn a_file_that_is_not_there() {
 #[test]
 fn secrets_are_not_shown() {
     let account = due(1, b"hunter2");
-    let file = TemporaryFile::holding(&written(&[account.clone()]));
+    let file = TemporaryFile::holding(&account.bytes());
     let mut shown = Vec::new();
     for run in [
         listed(&file),
