@@ -27,8 +27,8 @@ lyra2 book list --book book";
 /// How the file of a book is changed.
 pub const BOOK_CHANGE: &str =
     "The new book is written beside FILE and takes its name once it is whole, so that FILE is always the old book or the \
-new one; it keeps its owner, group and mode. One program changes it at a time, and others wait. Of a link the file has \
-to be named that it leads to.";
+new one; it keeps its owner, group and mode. One program changes it at a time, and others wait. No link is \
+replaced: name the file that it leads to.";
 
 /// The exit status of the commands that do not answer yes or no.
 pub const STATUS: &str =

@@ -17,7 +17,7 @@ use lyra2::{Account, Lengths, ACCOUNT_MAX, USUAL_ROUNDS};
 #[derive(Args)]
 #[command(after_help = help::paragraphs(&[
     "A file that is not there is a book without accounts, and made for its owner alone. The account is put last, and one \
-     of the same number is taken out; that it was added or replaced is printed.",
+     of the same number is taken out. Printed is whether it was added or replaced.",
     "The salt is 16 bytes from the system's random source, or as many as --salt-length says, unless one is given.",
     help::BOOK_CHANGE,
     help::PASSWORD,

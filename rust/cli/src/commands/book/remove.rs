@@ -10,7 +10,7 @@ use clap::Args;
 /// Remove an account from a book
 #[derive(Args)]
 #[command(after_help = help::paragraphs(&[
-    "That the account was removed is printed. A book that has no accounts any more is an empty file.",
+    "The later accounts move up. A book that has no accounts any more is an empty file.",
     help::BOOK_CHANGE,
     help::STATUS,
 ]))]
