@@ -4,14 +4,13 @@
 //! makes it, locks it and still finds it under its name may change the old file. A program that is killed leaves it
 //! unlocked, and the next one removes it.
 
+use crate::replacement::{require_file_name, NOT_A_FILE};
 use rustix::fs::OFlags;
 use std::ffi::OsString;
 use std::fs::{self, File, Metadata, OpenOptions, Permissions};
 use std::io::{self, ErrorKind, Write};
 use std::os::unix::fs::{fchown, MetadataExt, OpenOptionsExt, PermissionsExt};
 use std::path::{Path, PathBuf};
-
-use crate::replacement::{require_file_name, NOT_A_FILE};
 
 /// The right to change a file. Dropped before the new file is put in its place, it leaves the old one as it was.
 pub struct Change {
