@@ -329,3 +329,36 @@ fn large_files() {
         "lyra2 book list: no memory for the book of 16777216 bytes"
     );
 }
+
+/// A book that is as long as one can be takes no account more, but one in the place of another.
+#[test]
+fn a_book_that_is_full() {
+    const MOST: usize = 1 << 24;
+    const LARGEST: usize = 14 + 64 + 1024;
+    let mut accounts: Vec<Account> = Vec::new();
+    let mut left = MOST;
+    while left > 0 {
+        // The last two share what is left.
+        let size = match left / LARGEST {
+            0 => left,
+            1 => left / 2,
+            _ => LARGEST,
+        };
+        let number = accounts.len() as u32;
+        accounts.push(Account::of_no_password(number, 64, size - 14 - 64));
+        left -= size;
+    }
+    let file = TemporaryFile::holding(&written(&accounts));
+    let before = file.bytes();
+    assert_eq!(before.len(), MOST);
+    let number = accounts.len() as u32;
+    let line = added(&file, number, "--salt-length 8", b"pass").failure();
+    let full = "lyra2 book add: refused 19: the book must have room for the account";
+    assert_eq!(line, full);
+    assert!(file.bytes() == before);
+    let salt = format!("--salt {}", hex(SALT));
+    added(&file, 0, &salt, b"pass").result();
+    accounts.remove(0);
+    accounts.push(due(0, b"pass"));
+    assert!(file.bytes() == written(&accounts));
+}
