@@ -87,7 +87,8 @@ pub fn are_distinct(book: &[u8]) -> bool
     requires { ⌜ isRun (now book) ≡ true ⌝ }
     ensures { λ r. ⌜ r ≡ distinct (accounts (now (book .entry))) ⌝ }
 {
-    let mut block: [u32; 128] = [0; BLOCK];
+    // Whatever the block holds before, but no 0: of a value that it knows the compiler would make a call of memset.
+    let mut block: [u32; 128] = [account_at(book, 0).number; BLOCK];
     let mut at = 0;
     while at < book.len() {
         let b = collect(book, at, &mut block);

@@ -5,44 +5,36 @@ use text::append;
 ghost use mathlib.Core.Path.{_≡_};
 ghost use mathlib.Core.List.{_++_};
 ghost use Prim.Native.Nat.{_+_, _-_, _≤_};
-ghost use lib.ListN.{length, take, drop, replicate};
+ghost use lib.ListN.{length, getD, take, drop, replicate};
 ghost use Rattle.lists.specs.Zip.{zipAt};
 ghost use Rattle.little_endian.specs.Bytes.{leBytes};
 ghost use Rattle.text.specs.Text.{Appended};
 ghost use Rattle.accounts.specs.Accounts.{headBytes, head, encode};
 ghost use Rattle.accounts.specs.Contracts.{account};
 
-// Moves the used bytes from one place on up to an earlier place.
-fn move_up(book: &mut [u8], to: usize, from: usize, used: usize)
-    requires { ⌜ (to ≤ from) × (from ≤ used) × (used ≤ length (now book)) ⌝ }
-    ensures { λ _. ⌜ now (book .exit) ≡ zipAt (λ x y. y) to (now (book .entry)) (drop from (take used (now (book .entry)))) ⌝ }
+// The used byte so many bytes behind a place, 0 behind the last one.
+fn used_byte(book: &[u8], used: usize, from: usize, i: usize) -> u8
+    requires { ⌜ (from ≤ used) × (used ≤ length (now book)) ⌝ }
+    ensures { λ r. ⌜ r ≡ getD (drop from (take used (now (book .entry)))) i 0 ⌝ }
 {
-    let mut i = 0;
-    while i < used - from {
-        book[to + i] = book[from + i];
-        i += 1;
+    if i < used - from {
+        return book[from + i];
     }
+    0
 }
 
-// Zeros in place of n bytes.
-fn clear(book: &mut [u8], at: usize, n: usize)
-    requires { ⌜ at + n ≤ length (now book) ⌝ }
-    ensures { λ _. ⌜ now (book .exit) ≡ zipAt (λ x y. y) at (now (book .entry)) (replicate n 0) ⌝ }
-{
-    let mut i = 0;
-    while i < n {
-        book[at + i] = 0;
-        i += 1;
-    }
-}
-
-// Takes the bytes of an account out of the used part: the later ones move up, and those that are no longer used become zero.
+// Takes the bytes of an account out of the used part: the later ones move up, and those that are no longer used become zero. Both are done
+// in one loop: of one that stores zeros alone the compiler would make a call of memset, a name from elsewhere.
 pub fn take_out(book: &mut [u8], used: usize, place: usize, size: usize)
     requires { ⌜ (place + size ≤ used) × (used ≤ length (now book)) ⌝ }
     ensures { λ _. ⌜ now (book .exit) ≡ zipAt (λ x y. y) place (now (book .entry)) (drop (place + size) (take used (now (book .entry))) ++ replicate size 0) ⌝ }
 {
-    move_up(book, place, place + size, used);
-    clear(book, used - size, size);
+    let from = place + size;
+    let mut moved = 0;
+    while moved < used - place {
+        book[place + moved] = used_byte(book, used, from, moved);
+        moved += 1;
+    }
 }
 
 // Puts the n low bytes of a number at a place, and answers where they end.

@@ -14,7 +14,7 @@ pub are-distinct-spec : {M : Type 1} → statement M
 are-distinct-spec =
     tie.close
     (tie.spec (λ book block₀ at₀ block at. (length block ≡ 128) × Distinct book at) (λ book block₀ at₀ block at. length book - at)
-    (λ c. (refl, distinct-none (running-none (run _ (c .before .pre))))) (λ c. omega (arith, c .before .before .loop .inv .0)) (λ c κs. (c .before .before .loop .inv .1 .running, omega arith)) (λ c. omega (arith, c .before .collect .ensures .0 .count-most)) (λ c. sym (length-take-le _ _ (c .before .before .collect .ensures .0 .count-most))) (λ c κs. tt)
+    (λ c κs. tt) (λ c. (refl, distinct-none (running-none (run _ (c .before .before .pre))))) (λ c. omega (arith, c .before .before .loop .inv .0)) (λ c κs. (c .before .before .loop .inv .1 .running, omega arith)) (λ c. omega (arith, c .before .collect .ensures .0 .count-most)) (λ c. sym (length-take-le _ _ (c .before .before .collect .ensures .0 .count-most))) (λ c κs. tt)
     (λ c.
     distinct-repeated (c .before .before .before .before .before .before .before .loop .inv .1) (c .before .before .before .before .collect .ensures .0)
     (sym (c .before .all-differ .ensures) ∙ not-true _ (c .if1 .taken)))

@@ -1,0 +1,2 @@
+-- The laws of the bytes that move.
+pub mod Moving
