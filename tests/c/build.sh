@@ -6,7 +6,8 @@ library=target/staticlib/libderivation_export.a
 work=$(mktemp -d)
 trap 'rm -rf "$work"' EXIT
 flags=(-std=c99 -O2 -Wall -Wextra -pedantic -Werror -Iinclude)
-wrapped=-Wl$(printf ',--wrap=lyra2_%s' derive derive_recorded check cost choose walk record_pair line_read line_write)
+wrapped=-Wl$(printf ',--wrap=lyra2_%s' derive derive_recorded check cost choose walk record_pair line_read line_write \
+    book_{find,add,remove,check,account})
 
 same() { # WHAT EXPECTED FOUND
     [ "$2" = "$3" ] || { echo "$1: expected '$2', found '$3'"; exit 1; }
@@ -23,10 +24,11 @@ compile() { # NAME..
 # Compiles the faulty library to the objects `faulty`; `wrapped` is for the linker. Each source has one or two hundreds of the
 # numbers, and is as good as without a fault for all others.
 compile_fault() { # FAULT
-    local hundreds=(faulty faulty_lines faulty_settings faulty_settings faulty_records faulty_choices faulty_rule)
+    local hundreds=(faulty faulty_lines faulty_settings faulty_settings faulty_records faulty_choices faulty_rule
+        faulty_books faulty_accounts faulty_books)
     local source own object
     faulty=()
-    for source in faulty faulty_lines faulty_settings faulty_records faulty_choices faulty_rule; do
+    for source in faulty faulty_lines faulty_settings faulty_records faulty_choices faulty_rule faulty_books faulty_accounts; do
         own=0
         [ "$source" != "${hundreds[$1 / 100]}" ] || own=$1
         object=$work/${source}_$own.o

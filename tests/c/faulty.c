@@ -2,8 +2,8 @@
  * A library with one fault, to see that the tests of the C interface find it: linked with --wrap, it stands between a
  * test and the library. FAULT chooses the fault; 0 is none, those from 60 on are seen by memcheck alone, and those from
  * 70 on by the search of the stack alone. Those from 100 on are in faulty_lines.c, those from 200 on in
- * faulty_settings.c, those from 400 on in faulty_records.c, those from 500 on in faulty_choices.c and those from 600 on
- * in faulty_rule.c.
+ * faulty_settings.c, those from 400 on in faulty_records.c, those from 500 on in faulty_choices.c, those from 600 on in
+ * faulty_rule.c, those from 700 and from 900 on in faulty_books.c and those from 800 on in faulty_accounts.c.
  */
 #include "faulty.h"
 #include "lyra2.h"

@@ -47,6 +47,25 @@ size_t least_cells(void);
 /* The values of an accepted choice, in their order. */
 void choose_anew(const struct choice_asked *n, size_t *values);
 
+/* An account of a book; the salt stands behind its head, and the key behind the salt. */
+struct account_read {
+    size_t number, time, rows, columns, salt, key, size;
+};
+
+/* The account at a place of the used part; false, and zeros, where there is none. */
+bool read_account(const uint8_t *book, size_t used, size_t place, struct account_read *account);
+void write_account(uint8_t *to, const struct account_read *account, const uint8_t *salt, const uint8_t *key);
+
+/* The used length as the library takes it, and whether the book is good. */
+size_t take_used(size_t book_len, size_t used);
+bool is_good(const uint8_t *book, size_t book_len, size_t used);
+
+/* The account of a number and its place; false if there is none. */
+bool look_up(const uint8_t *book, size_t used, uint32_t number, struct account_read *account, size_t *place);
+
+/* The first of the checks of an account that is added. */
+uint32_t refuse_account(const struct account_read *account);
+
 /* Leaves up to eight bytes on the stack, where no word starts, as a function does that does not wipe its own place. */
 void leave(const uint8_t *bytes, size_t count);
 

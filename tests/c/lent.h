@@ -13,6 +13,12 @@ struct lent {
     const uint8_t *contents; /* what the lent part holds beforehand; null stands for the pattern */
 };
 
+/* Bytes to read; a null stands for the pattern of lent memory. */
+struct bytes {
+    const uint8_t *start;
+    size_t length;
+};
+
 /* Lends so many bytes at an address that `alignment`, 1 to 8, divides and often no higher power of two. */
 void lend(struct lent *lent, size_t bytes, size_t alignment, const uint8_t *contents);
 

@@ -5,12 +5,6 @@
 #include "lent.h"
 #include "lyra2.h"
 
-/* Bytes to read; a null stands for the pattern of lent memory. */
-struct bytes {
-    const uint8_t *start;
-    size_t length;
-};
-
 struct read_call {
     struct lent line, salt, key, values;
     uint32_t answer;
