@@ -185,10 +185,14 @@ static void require_far(void)
 {
     const struct asked base = accepted();
     for (size_t short_by = 0; short_by < 2 * SMALLEST; short_by++) {
-        struct asked far = base;
+        struct asked far = base, past = base;
         far.used = SIZE_MAX - short_by;
-        for (enum book_call call = FIND; call < CALLS; call++)
+        past.length = base.used;
+        past.used = base.used + 1 + short_by;
+        for (enum book_call call = FIND; call < CALLS; call++) {
             require_answer("a used length near the last number", call, &far, LYRA2_REFUSED_BOOK);
+            require_answer("a used length past a full book", call, &past, LYRA2_REFUSED_BOOK);
+        }
         require_account("a place near the last number", (struct bytes){base.bytes, base.used}, far.used);
     }
 }
@@ -212,10 +216,12 @@ static void require_alone(void)
         || lyra2_book_remove(middle, 2 * SMALLEST, SMALLEST, 3, &used_after) != LYRA2_REFUSED_NO_ACCOUNT)
         fail("around the book: an account outside of it is taken");
     if (lyra2_book_account(middle, SMALLEST, SMALLEST, values) != 0
-        || lyra2_book_account(middle, SMALLEST, (size_t)-SMALLEST, values) != 0
         || lyra2_book_account(middle, SMALLEST - 1, 0, values) != 0
         || lyra2_book_account(middle, SMALLEST, 0, values) != SMALLEST)
         fail("around the book: an account outside of it is read");
+    for (size_t before = 1; before <= SMALLEST; before++, calls_made++)
+        if (lyra2_book_account(middle - SMALLEST + before, 2 * SMALLEST, 0 - before, values) != 0)
+            fail("around the book: an account %zu bytes before it is read", before);
     require_kept(&lent, 0, "book");
     lent.contents = NULL;
     if (lyra2_book_remove(middle, SMALLEST, SMALLEST, 2, &used_after) != LYRA2_ACCEPTED || used_after != 0)
@@ -223,7 +229,7 @@ static void require_alone(void)
     memset(whole + SMALLEST, 0, SMALLEST);
     if (memcmp(lent_part(&lent), whole, sizeof whole) != 0)
         fail("around the book: bytes outside of it are changed");
-    calls_made += 10;
+    calls_made += 9;
     take_back(&lent);
 }
 

@@ -48,6 +48,9 @@ enum {
     BOOK_LIMITS = 871,
 };
 
+/* More than the tests have in a book. */
+enum { MOST_ACCOUNTS = 1 << 14 };
+
 static size_t get(const uint8_t *bytes, size_t count, bool high_first)
 {
     size_t number = 0;
@@ -188,20 +191,18 @@ static bool may_end(size_t place, size_t used)
 
 bool is_good(const uint8_t *book, size_t book_len, size_t used)
 {
+    static uint32_t numbers[MOST_ACCOUNTS];
     struct account_read account;
     size_t place = 0, count = 0;
     if (used > book_len || has(EMPTY_BOOK_REFUSED, used == 0))
         return false;
-    uint32_t *numbers = malloc((used / LYRA2_ACCOUNT_HEAD + 1) * sizeof *numbers);
-    if (numbers == NULL)
-        abort();
     while (read_account(book, used, place, &account)) {
+        if (count == MOST_ACCOUNTS)
+            abort();
         numbers[count++] = (uint32_t)account.number;
         place += account.size;
     }
-    bool distinct = are_distinct(numbers, count);
-    free(numbers);
-    return distinct && may_end(place, used);
+    return are_distinct(numbers, count) && may_end(place, used);
 }
 
 bool look_up(const uint8_t *book, size_t used, uint32_t number, struct account_read *account, size_t *place)

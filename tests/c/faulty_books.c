@@ -160,9 +160,9 @@ static uint32_t numbered(uint32_t answer)
 /* The account of a number, or why there is none. A call may have left the judgement out, or put it last. */
 static uint32_t judge(BOOK_PARAMETERS, bool unjudged, bool missing_first, struct account_read *account, size_t *place)
 {
-    bool good = is_good(book, book_len, used);
-    bool found = look_up(book, used < book_len ? used : book_len, number, account, place);
-    if (!good && !unjudged && !(missing_first && !found))
+    bool good = is_good(book, book_len, used) || unjudged;
+    bool found = (good || missing_first) && look_up(book, used < book_len ? used : book_len, number, account, place);
+    if (!good && (found || !missing_first))
         return LYRA2_REFUSED_BOOK;
     return found ? LYRA2_ACCEPTED : LYRA2_REFUSED_NO_ACCOUNT;
 }
@@ -417,6 +417,8 @@ static uint32_t refuse_check(size_t password_len, BOOK_PARAMETERS, size_t matrix
                              size_t *at)
 {
     size_t most = LYRA2_PASSWORD_MAX + (FAULT == PASSWORD_OF_1025_TAKEN) - (FAULT == PASSWORD_OF_1024_REFUSED);
+    if (password_len > most && FAULT != BOOK_BEFORE_PASSWORD && FAULT != MISSING_BEFORE_PASSWORD)
+        return LYRA2_REFUSED_PASSWORD;
     if (FAULT == CHECK_OF_THE_FIRST && is_good(book, book_len, used) && read_account(book, used, 0, account))
         number = (uint32_t)account->number;
     uint32_t answer = judge(book, book_len, used, number, FAULT == BOOK_NOT_JUDGED_BY_CHECK,

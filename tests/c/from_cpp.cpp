@@ -6,6 +6,9 @@ static_assert(LYRA2_VISIT_WORDS(1) == 2 && LYRA2_VISIT_WORDS(LYRA2_COLUMNS_MAX) 
 static_assert(LYRA2_RECORD_WORDS(1, 3, 1) == 6, "the smallest record");
 static_assert(LYRA2_RECORD_WORDS(LYRA2_TIME_MAX, LYRA2_ROWS_MAX, LYRA2_COLUMNS_MAX) == 1073725440, "the largest record");
 static_assert(LYRA2_CHOICE_VALUES == 4 && LYRA2_REFUSED_TRIES == 15 && LYRA2_REFUSED_NOTHING_FITS == 16, "the choice");
+static_assert(LYRA2_ACCOUNT_BYTES(LYRA2_SALT_MAX, LYRA2_KEY_MAX) == LYRA2_ACCOUNT_MAX, "the longest account");
+static_assert(LYRA2_ACCOUNT_VALUES == 6 && LYRA2_REFUSED_BOOK == 17 && LYRA2_REFUSED_NO_ACCOUNT == 18
+                  && LYRA2_REFUSED_BOOK_FULL == 19, "the book of accounts");
 static_assert(!LYRA2_MIXER_PLAIN && LYRA2_MIXER_BLAMKA, "the two mixers");
 
 // A word of the record is taken apart into these two numbers, and nothing beside them is written.
@@ -31,6 +34,29 @@ static bool chooses_the_greatest()
         && choice[LYRA2_CHOICE_COLUMNS] == LYRA2_COLUMNS_MAX && choice[LYRA2_CHOICE_SHORTFALL] == 0;
 }
 
+// An account is added, found, read, checked and removed; the bytes that are no longer used are zeros.
+static bool keeps_an_account(const uint8_t *password, const uint8_t *salt, const uint8_t *key, uint64_t *matrix)
+{
+    uint8_t book[LYRA2_ACCOUNT_BYTES(LYRA2_SALT_MIN, 32) + 1] = {};
+    const size_t size = sizeof book - 1;
+    size_t used = 0, place = 1, values[LYRA2_ACCOUNT_VALUES];
+    uint64_t counts[LYRA2_COUNTS];
+    uint32_t same = 0;
+    book[size] = 0xa5;
+    if (lyra2_book_add(book, sizeof book, 0, 7, 1, 3, 1, salt, LYRA2_SALT_MIN, key, 32, &used) != LYRA2_ACCEPTED
+        || used != size || lyra2_book_find(book, sizeof book, used, 7, &place) != LYRA2_ACCEPTED || place != 0
+        || lyra2_book_account(book, used, 0, values) != size || values[LYRA2_ACCOUNT_NUMBER] != 7
+        || values[LYRA2_ACCOUNT_KEY_LEN] != 32)
+        return false;
+    if (lyra2_book_check(password, 1, book, sizeof book, used, 7, matrix, 36, &same, counts) != LYRA2_ACCEPTED
+        || same != 1 || lyra2_book_remove(book, sizeof book, used, 7, &used) != LYRA2_ACCEPTED || used != 0)
+        return false;
+    for (size_t i = 0; i < size; i++)
+        if (book[i] != 0)
+            return false;
+    return book[size] == 0xa5;
+}
+
 int main()
 {
     if (!chooses_the_greatest())
@@ -50,5 +76,7 @@ int main()
     if (lyra2_check(password, 1, salt, sizeof salt, 1, 3, 1, rounds, rotation, mixer, key, sizeof key, matrix, 36, &same,
                     counts) != LYRA2_ACCEPTED)
         return 1;
-    return same == 1 && counts[LYRA2_REDUCED_CALLS] == 6 ? 0 : 1;
+    if (same != 1 || counts[LYRA2_REDUCED_CALLS] != 6)
+        return 1;
+    return keeps_an_account(password, salt, key, matrix) ? 0 : 1;
 }

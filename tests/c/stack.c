@@ -5,11 +5,12 @@
 
 #include <stdio.h>
 
-enum { ROWS = 20, COLUMNS = 17, TIME = 2, OPERATIONS_RUN = 9 };
+enum { ROWS = 20, COLUMNS = 17, TIME = 2, OPERATIONS_RUN = 14, ACCOUNTS = 100, REPLACED = ACCOUNTS / 2 };
 
-/* A record and a line are written before they are read. */
-static const char *const names[OPERATIONS_RUN] = {"derive", "derive_recorded", "check",      "cost",     "choose",
-                                                  "walk",   "record_pair",     "line_write", "line_read"};
+/* A record, a line and an account are written before they are read. */
+static const char *const names[OPERATIONS_RUN] = {
+    "derive",     "derive_recorded", "check",    "cost",      "choose",     "walk",        "record_pair",
+    "line_write", "line_read",       "book_add", "book_find", "book_check", "book_remove", "book_account"};
 static const uint8_t password[LYRA2_PASSWORD_MAX], salt[LYRA2_SALT_MAX];
 static uint8_t key[LYRA2_KEY_MAX];
 static uint64_t matrix[LYRA2_MATRIX_WORDS(ROWS, COLUMNS)], record[LYRA2_RECORD_WORDS(TIME, ROWS, COLUMNS)];
@@ -18,6 +19,8 @@ static uint32_t same, answer;
 static size_t choice[LYRA2_CHOICE_VALUES], row1;
 static uint8_t line[LYRA2_LINE_MAX], read_salt[LYRA2_SALT_MAX];
 static size_t line_len, values[LYRA2_LINE_VALUES];
+static uint8_t book[ACCOUNTS * LYRA2_ACCOUNT_BYTES(LYRA2_SALT_MAX, 32) + LYRA2_ACCOUNT_MAX];
+static size_t used, used_after, place, account[LYRA2_ACCOUNT_VALUES];
 
 /* Rounds and rotation; the usual ones have code of their own. So has each mixer. */
 static const size_t settings[][2] = {
@@ -30,6 +33,43 @@ static const size_t settings[][2] = {
 static int operation;
 static size_t rounds, rotation;
 static bool mixer;
+
+/* An account is put in the place of another, found and checked; the first ones are removed, a new one each time. */
+static void call_book(void)
+{
+    switch (operation) {
+    case 9:
+        answer = lyra2_book_add(book, sizeof book, used, REPLACED, TIME, ROWS, COLUMNS, salt, sizeof salt, key, sizeof key,
+                                &used_after);
+        used = used_after;
+        break;
+    case 10:
+        answer = lyra2_book_find(book, sizeof book, used, REPLACED, &place);
+        break;
+    case 11:
+        answer = lyra2_book_check(password, sizeof password, book, sizeof book, used, REPLACED, matrix,
+                                  sizeof matrix / sizeof *matrix, &same, counts);
+        break;
+    case 12:
+        answer = lyra2_book_remove(book, sizeof book, used, (uint32_t)account[LYRA2_ACCOUNT_NUMBER], &used_after);
+        used = used_after;
+        account[LYRA2_ACCOUNT_NUMBER]++;
+        break;
+    default:
+        answer = LYRA2_ACCEPTED; /* which it does not say, for it refuses nothing */
+        place = lyra2_book_account(book, used, 0, account);
+    }
+}
+
+static void fill_book(void)
+{
+    for (uint32_t number = 0; number < ACCOUNTS; number++) {
+        answer = lyra2_book_add(book, sizeof book, used, number, 1, 3, 1, salt, sizeof salt, key, 32, &used_after);
+        if (answer != LYRA2_ACCEPTED)
+            fail("book_add: %s", lyra2_sentence(answer));
+        used = used_after;
+    }
+}
 
 static void call(void)
 {
@@ -65,8 +105,11 @@ static void call(void)
         answer = lyra2_line_write(LYRA2_TIME_MAX, LYRA2_ROWS_MAX, LYRA2_COLUMNS_MAX, salt, sizeof salt, key, sizeof key,
                                   line, sizeof line, &line_len);
         break;
-    default:
+    case 8:
         answer = lyra2_line_read(line, line_len, read_salt, sizeof read_salt, key, sizeof key, values);
+        break;
+    default:
+        call_book();
     }
 }
 
@@ -94,6 +137,7 @@ static size_t most_used(void)
 
 int main(void)
 {
+    fill_book();
     printf("stack:");
     for (operation = 0; operation < OPERATIONS_RUN; operation++) {
         size_t used = most_used();

@@ -6,6 +6,7 @@
 #include "choice_calls.h"
 #include "fields.h"
 #include "line_calls.h"
+#include "vector_books.h"
 
 #include <inttypes.h>
 #include <stdio.h>
@@ -286,7 +287,7 @@ static void run_any(struct text line)
         run_line_read(line);
     else if (is(name, "line_write"))
         run_line_write(line);
-    else if (!is(name, "walk_program"))
+    else if (!run_book(line, name) && !is(name, "walk_program"))
         fail("an unknown operation");
 }
 
@@ -323,7 +324,8 @@ int main(int count, char **arguments)
     printf("vectors:");
     for (enum operation operation = RECORDED; operation < OPERATIONS; operation++)
         printf(" %zu %s,", lines_of[operation], operation_names[operation]);
-    printf(" %zu choose, %zu walk, %zu line_read, %zu line_write lines; %zu calls\n", choice_lines, walk_lines,
-           read_lines, write_lines, calls_made);
+    printf(" %zu choose, %zu walk, %zu line_read, %zu line_write,", choice_lines, walk_lines, read_lines, write_lines);
+    print_book_lines();
+    printf(" lines; %zu calls\n", calls_made);
     return 0;
 }
