@@ -1,14 +1,15 @@
 #!/usr/bin/env bash
 # The C interface from C: what the archive exports and needs, the header's limits, the refusals in pairs, visit records, login
-# lines, choices of costs, the stack, what is left on it, and the vectors; and wrong headers, wrong vectors and faulty
-# libraries, which these tests have to find.
+# lines, choices of costs, books of accounts, the stack, what is left on it, and the vectors; and wrong headers, wrong vectors
+# and faulty libraries, which these tests have to find.
 set -eu
 cd "$(dirname "$0")/.."
 . tests/c/build.sh
 
-# ---- the archive: nine functions, nothing needed from elsewhere, no section to write in
+# ---- the archive: fourteen functions, nothing needed from elsewhere, no section to write in
 names=$(nm -g --defined-only "$library" 2>"$work/log" | sed -n 's/^[0-9a-f]* //p' | sort | tr '\n' ' ')
-same 'exported names' "$(printf 'T lyra2_%s ' check choose cost derive derive_recorded line_read line_write record_pair walk)" "$names"
+same 'exported names' "$(printf 'T lyra2_%s ' book_{account,add,check,find,remove} check choose cost derive derive_recorded \
+    line_read line_write record_pair walk)" "$names"
 nm -u "$library" >"$work/undefined" 2>"$work/log"
 same 'names from elsewhere' '' "$(sed -n 's/^ *[Uwv] //p' "$work/undefined")"
 readelf -SW "$library" >"$work/sections"
@@ -16,31 +17,42 @@ grep -q ' AX ' "$work/sections" || { echo 'readelf shows no code'; exit 1; }
 same 'sections to write in' '' "$(grep -E ' (WA|WAT|AW)[A-Z]* ' "$work/sections" || true)"
 
 # ---- the programs
-compile limits refusals records lines choosing triples stack left left_lines marked vectors fields calls line_calls choice_calls lent
+compile limits refusals records lines choosing triples books book_refusals book_changes long_books stack left left_lines \
+    left_books marked vectors vector_books fields calls line_calls choice_calls book_calls book_due book_model lent
 cc "${flags[@]}" "$work"/{limits,calls,lent}.o "$library" -o "$work/limits"
 cc "${flags[@]}" "$work"/{refusals,calls,lent}.o "$library" -o "$work/refusals"
 cc "${flags[@]}" "$work"/{records,calls,lent}.o "$library" -o "$work/records"
 cc "${flags[@]}" "$work"/{lines,calls,line_calls,lent}.o "$library" -o "$work/lines"
 cc "${flags[@]}" "$work"/{choosing,calls,choice_calls,lent}.o "$library" -o "$work/choosing"
 cc "${flags[@]}" "$work"/{triples,calls,choice_calls,lent}.o "$library" -o "$work/triples"
+for program in books book_refusals book_changes long_books; do
+    cc "${flags[@]}" "$work"/{$program,book_due,book_calls,book_model,calls,lent}.o "$library" -o "$work/$program"
+done
 cc "${flags[@]}" "$work"/{stack,marked,lent}.o "$library" -o "$work/stack"
 cc "${flags[@]}" "$work"/{left,marked,calls,lent}.o "$library" -o "$work/left"
 cc "${flags[@]}" "$work"/{left_lines,marked,lent}.o "$library" -o "$work/left_lines"
-cc "${flags[@]}" "$work"/{vectors,fields,calls,line_calls,choice_calls,lent}.o "$library" -o "$work/vectors"
+cc "${flags[@]}" "$work"/{left_books,book_model,marked,lent}.o "$library" -o "$work/left_books"
+cc "${flags[@]}" "$work"/{vectors,vector_books,fields,calls,line_calls,choice_calls,book_calls,book_model,lent}.o "$library" \
+    -o "$work/vectors"
 "$work/limits"
 "$work/refusals"
 "$work/records"
 "$work/lines"
 "$work/choosing"
 "$work/triples"
+"$work/books"
+"$work/book_refusals"
+"$work/book_changes"
+"$work/long_books"
 "$work/stack"
 "$work/left"
 "$work/left_lines"
+"$work/left_books"
 "$work/vectors" vectors/lyra2.txt >"$work/ran"
 cat "$work/ran"
 
 # Every line of the file was put to the library, as grep counts them.
-for op in derive_recorded derive check cost choose walk line_read line_write; do
+for op in derive_recorded derive check cost choose walk line_read line_write book_{find,add,remove,check,account}; do
     lines=$(grep -c " op=$op " vectors/lyra2.txt)
     grep -qE " $lines $op( lines|,)" "$work/ran" || { echo "not all $lines lines of $op were run"; exit 1; }
 done
@@ -49,29 +61,38 @@ done
 warned() { # FOLDER
     cc -std=c99 -I"$1" -c tests/c/careless.c -o "$work/careless.o" 2>&1 | grep -c 'Wunused-result'
 }
-same 'warnings of ignored answers' 8 "$(warned include)"
+same 'warnings of ignored answers' 12 "$(warned include)"
 
 # ---- wrong headers: a constant, a sentence or a declaration changed. The usual settings are those of lines that have none.
 grep ' op=derive .* refusal=0 ' vectors/lyra2.txt | grep -vE ' (rho|omega|mixer)=' | sed -n 1,5p >"$work/few"
 mkdir "$work/include"
-# Whether a test fails with the header in $work/include; what it says is in the log.
-is_noticed() {
-    local name
-    for name in calls line_calls choice_calls limits records lines vectors choosing; do
+# Whether a test fails with the header in $work/include; what it says is in the log. The tests of books go first where the
+# edit is about them, which saves time.
+is_noticed() { # EDIT
+    local name parts=() others=(limits records line_calls lines choice_calls choosing)
+    local books=(book_model book_calls book_due books book_refusals) first
+    first=("${others[@]}" "${books[@]}")
+    [[ $1 != *[Bb][Oo][Oo][Kk]* && $1 != *ACCOUNT* ]] || first=("${books[@]}" "${others[@]}")
+    for name in calls "${first[@]}" vector_books vectors; do
         cc -std=c99 -Werror=int-conversion -Werror=incompatible-pointer-types -I"$work/include" \
             -c "tests/c/$name.c" -o "$work/include/$name.o" >"$work/log" 2>&1 || return 0
-        [[ $name != *calls ]] || continue
-        cc "$work/include"/{$name,calls,line_calls,choice_calls}.o "$work"/{fields,lent}.o "$library" -o "$work/wrong" || exit 1
-        "$work/wrong" "$work/few" >"$work/log" 2>&1 || return 0
+        case $name in
+        *calls | book_model | book_due) parts+=("$work/include/$name.o") ;;
+        vector_books) parts+=("$work"/{include/vector_books,fields}.o) ;;
+        *)
+            cc "$work/include/$name.o" "${parts[@]}" "$work/lent.o" "$library" -o "$work/wrong" || exit 1
+            "$work/wrong" "$work/few" >"$work/log" 2>&1 || return 0
+            ;;
+        esac
     done
-    [ "$(warned "$work/include")" != 8 ] || return 1
+    [ "$(warned "$work/include")" != 12 ] || return 1
     echo 'FAILED: an answer may be ignored' >"$work/log"
 }
 headers=0
 while read -r edit; do
     sed "$edit" include/lyra2.h >"$work/include/lyra2.h"
     ! cmp -s include/lyra2.h "$work/include/lyra2.h" || { echo "no header to spoil: $edit"; exit 1; }
-    is_noticed || { echo "a wrong header passes: $edit"; exit 1; }
+    is_noticed "$edit" || { echo "a wrong header passes: $edit"; exit 1; }
     grep -qE '^FAILED: |: error: (too (many|few) arguments to function|passing argument [0-9]+ of)' "$work/log" \
         || { cat "$work/log"; exit 1; }
     headers=$((headers + 1))
@@ -173,6 +194,70 @@ s/at least one column count has to be tried/no time cost from 1, rows and column
 / lyra2_choose(/,/;/s/size_t tries/uint8_t tries/
 / lyra2_choose(/,/;/s/size_t tries/uint32_t tries/
 s/LYRA2_ANSWER uint32_t lyra2_choose/uint32_t lyra2_choose/
+s/ACCOUNT_MARK "AC"/ACCOUNT_MARK "CA"/
+s/ACCOUNT_MARK "AC"/ACCOUNT_MARK "Ac"/
+s/ACCOUNT_HEAD 14/ACCOUNT_HEAD 13/
+s/ACCOUNT_HEAD 14/ACCOUNT_HEAD 15/
+s/ACCOUNT_HEAD + (salt_len) + (key_len)/ACCOUNT_HEAD + (salt_len)/
+s/ACCOUNT_HEAD + (salt_len) + (key_len)/ACCOUNT_HEAD + (key_len)/
+s/ACCOUNT_MAX 1102/ACCOUNT_MAX 1101/
+s/ACCOUNT_MAX 1102/ACCOUNT_MAX 1103/
+s/ACCOUNT_VALUES 6/ACCOUNT_VALUES 5/
+s/ACCOUNT_VALUES 6/ACCOUNT_VALUES 7/
+s/ACCOUNT_NUMBER 0/ACCOUNT_NUMBER 1/; s/ACCOUNT_TIME 1/ACCOUNT_TIME 0/
+s/ACCOUNT_TIME 1/ACCOUNT_TIME 2/; s/ACCOUNT_ROWS 2/ACCOUNT_ROWS 1/
+s/ACCOUNT_ROWS 2/ACCOUNT_ROWS 3/; s/ACCOUNT_COLUMNS 3/ACCOUNT_COLUMNS 2/
+s/ACCOUNT_COLUMNS 3/ACCOUNT_COLUMNS 4/; s/ACCOUNT_SALT_LEN 4/ACCOUNT_SALT_LEN 3/
+s/ACCOUNT_SALT_LEN 4/ACCOUNT_SALT_LEN 5/; s/ACCOUNT_KEY_LEN 5/ACCOUNT_KEY_LEN 4/
+s/REFUSED_NOTHING_FITS = 16/REFUSED_NOTHING_FITS = 17/; s/REFUSED_BOOK = 17/REFUSED_BOOK = 16/
+s/REFUSED_BOOK = 17/REFUSED_BOOK = 18/; s/REFUSED_NO_ACCOUNT = 18/REFUSED_NO_ACCOUNT = 17/
+s/REFUSED_NO_ACCOUNT = 18/REFUSED_NO_ACCOUNT = 19/; s/REFUSED_BOOK_FULL = 19/REFUSED_BOOK_FULL = 18/
+s/REFUSED_BOOK = 17/REFUSED_BOOK = 99/
+s/REFUSED_NO_ACCOUNT = 18/REFUSED_NO_ACCOUNT = 99/
+s/REFUSED_BOOK_FULL = 19/REFUSED_BOOK_FULL = 99/
+s/whole accounts within the limits, no number twice/whole accounts within the limits/
+s/the book has no account of this number/the book has no room for the account/
+s/the book has no room for the account/the book has no account of this number/
+/ lyra2_book_find(/,/;/s/, size_t used,/,/
+/ lyra2_book_find(/,/;/s/size_t used/uint32_t used/
+/ lyra2_book_find(/,/;/s/size_t book_len/uint8_t book_len/
+/ lyra2_book_find(/,/;/s/uint32_t number/uint16_t number/
+/ lyra2_book_find(/,/;/{ s/size_t used,$/uint32_t number,/; s/^    uint32_t number,$/    size_t used,/ }
+/ lyra2_book_find(/,/;/s/size_t [*]place/uint32_t *place/
+/ lyra2_book_add(/,/;/s/, size_t columns,/,/
+/ lyra2_book_add(/,/;/s/size_t time, /size_t time, size_t rounds, /
+/ lyra2_book_add(/,/;/s/size_t used,/uint32_t used,/
+/ lyra2_book_add(/,/;/s/size_t book_len/uint8_t book_len/
+/ lyra2_book_add(/,/;/s/uint32_t number/uint8_t number/
+/ lyra2_book_add(/,/;/s/size_t time/uint8_t time/
+/ lyra2_book_add(/,/;/s/size_t rows/uint16_t rows/
+/ lyra2_book_add(/,/;/s/size_t columns/uint16_t columns/
+/ lyra2_book_add(/,/;/s/size_t salt_len/uint8_t salt_len/
+/ lyra2_book_add(/,/;/s/size_t key_len/uint8_t key_len/
+/ lyra2_book_add(/,/;/{ s/size_t used,$/uint32_t number,/; s/^    uint32_t number,$/    size_t used,/ }
+/ lyra2_book_add(/,/;/s/size_t [*]used_after/uint32_t *used_after/
+/ lyra2_book_remove(/,/;/s/, size_t used,/,/
+/ lyra2_book_remove(/,/;/s/size_t used/uint32_t used/
+/ lyra2_book_remove(/,/;/s/size_t book_len/uint8_t book_len/
+/ lyra2_book_remove(/,/;/s/uint32_t number/uint16_t number/
+/ lyra2_book_remove(/,/;/s/size_t [*]used_after/uint32_t *used_after/
+/ lyra2_book_check(/,/;/s/, size_t used,/,/
+/ lyra2_book_check(/,/;/s/size_t used/uint32_t used/
+/ lyra2_book_check(/,/;/s/size_t password_len/uint8_t password_len/
+/ lyra2_book_check(/,/;/s/size_t book_len/uint8_t book_len/
+/ lyra2_book_check(/,/;/s/uint32_t number/uint16_t number/
+/ lyra2_book_check(/,/;/s/size_t matrix_words/uint8_t matrix_words/
+/ lyra2_book_check(/,/;/s/uint32_t [*]same/uint64_t *same/
+/ lyra2_book_check(/,/;/s/uint64_t counts/uint32_t counts/
+/ lyra2_book_account(/,/;/s/, size_t place,/,/
+/ lyra2_book_account(/,/;/s/size_t place/uint32_t place/
+/ lyra2_book_account(/,/;/s/size_t book_len/uint8_t book_len/
+/ lyra2_book_account(/,/;/s/size_t values/uint32_t values/
+s/^size_t lyra2_book_account/uint8_t lyra2_book_account/
+s/LYRA2_ANSWER uint32_t lyra2_book_find/uint32_t lyra2_book_find/
+s/LYRA2_ANSWER uint32_t lyra2_book_add/uint32_t lyra2_book_add/
+s/LYRA2_ANSWER uint32_t lyra2_book_remove/uint32_t lyra2_book_remove/
+s/LYRA2_ANSWER uint32_t lyra2_book_check/uint32_t lyra2_book_check/
 s/__attribute__((warn_unused_result))//
 END
 
@@ -180,7 +265,9 @@ END
 wrong=0
 for spoilt in derive_recorded:{key,state,full,reduced,rounds,matrix_sum,record_sum,matrix,record,rho,omega,mixer} \
     derive:{key,matrix_sum,rho,omega,mixer} check:{answer,matrix_sum,full,rho,omega,mixer} cost:{full,rounds,rho} \
-    choose:{T,R,C,shortfall,rho,matrix_words} walk:row1 line_read:{T,R,C,salt,key} line_write:line; do
+    choose:{T,R,C,shortfall,rho,matrix_words} walk:row1 line_read:{T,R,C,salt,key} line_write:line book_find:{place,number} \
+    book_add:{used_after,book_after,R,key} book_remove:{used_after,book_after,number} \
+    book_check:{answer,full,reduced,rounds,matrix_sum,password} book_account:{size,number,T,R,C,salt_len,key_len,place}; do
     field=${spoilt#*:}
     line=$(grep " op=${spoilt%:*} .* refusal=0 " vectors/lyra2.txt | grep " $field=" | grep -v " answer=no " | sed -n 1p)
     changed=$(sed -E "s/ $field=yes/ $field=NO/; s/ $field=no/ $field=yes/; s/ $field=NO/ $field=no/
@@ -196,7 +283,14 @@ done
 # ---- faulty libraries
 build_faulty() { # FAULT PROGRAM
     compile_fault "$1"
-    cc "$wrapped" "$work"/{"$2",fields,calls,line_calls,choice_calls,lent}.o "${faulty[@]}" "$library" -o "$work/faulty" || exit 1
+    local parts=calls
+    case $2 in
+    vectors) parts='vector_books fields calls line_calls choice_calls book_calls book_model' ;;
+    *book*) parts='calls book_due book_calls book_model' ;;
+    lines) parts='calls line_calls' ;;
+    choosing | triples) parts='calls choice_calls' ;;
+    esac
+    cc "$wrapped" "$work/$2.o" $(printf "$work/%s.o " $parts lent) "${faulty[@]}" "$library" -o "$work/faulty" || exit 1
 }
 is_found() { # FAULT PROGRAM..
     local program
@@ -207,9 +301,9 @@ is_found() { # FAULT PROGRAM..
     return 1
 }
 # Where all operations take one mixer for the other they agree with one another, and the vectors alone tell. The lines of
-# choices are for the library without a fault, which makes them by itself.
-grep -E ' op=choose | op=(derive|derive_recorded|check) .* rho=.* matrix_words=[0-9]{1,3} ' vectors/lyra2.txt >"$work/small"
-for program in limits refusals records vectors lines choosing triples; do
+# choices and of books are for the library without a fault, which makes them by itself.
+grep -E ' op=(choose|book_[a-z]+) | op=(derive|derive_recorded|check) .* rho=.* matrix_words=[0-9]{1,3} ' vectors/lyra2.txt >"$work/small"
+for program in limits refusals records vectors lines choosing triples books book_refusals book_changes long_books; do
     build_faulty 0 $program
     "$work/faulty" "$work/small" >"$work/log" 2>&1 || { cat "$work/log"; echo 'the wrapped library without a fault fails'; exit 1; }
 done
@@ -332,19 +426,182 @@ done <<'END'
 665 choose, a bit of the budget: T is 0, where 255 is due
 END
 
+# Those of books, and what is said of each.
+while read -r fault words; do
+    is_found "$fault" books book_refusals book_changes long_books || { echo "fault $fault is not found"; exit 1; }
+    grep -q "^FAILED: $words" "$work/log" || { cat "$work/log"; echo "fault $fault is found for another reason"; exit 1; }
+    found=$((found + 1))
+done <<'END'
+701 find, the form: the place is [0-9]*, where 280 is due
+702 find, the form: the place is 281, where 280 is due
+703 find, the form: the place is 294, where 280 is due
+704 find, the form: the place is 10, where 280 is due
+705 place: byte 0 is .., where 0 is due
+706 add, the form: other bytes are due
+707 add, the form: other bytes are due
+708 add, just enough room: the used length is 50, where 24 is due
+709 used_after: byte 0 is .., where 0 is due
+710 used_after: byte 0 is .., where 0 is due
+711 remove, the form: other bytes are due
+712 remove, the form: other bytes are due
+713 used_after: byte 0 is .., where 0 is due
+714 used_after: byte 0 is .., where 0 is due
+715 check, an account that is there: same is 1, where 0 is due
+716 check, the account's password: same is 0
+717 same: byte 0 is .., where 0 is due
+718 same: byte 0 is .., where 0 is due
+719 check, an account that is there: the rounds is [0-9]*, where 30 is due
+720 counts: byte 16 is .., where 0 is due
+721 matrix: byte 280 is .., where 0 is due
+722 matrix: changed about byte 288,
+723 matrix: changed about byte 0,
+724 book: its contents were changed
+725 book: its contents were changed
+726 book: its contents were changed
+727 password: its contents were changed
+728 salt: its contents were changed
+729 key: its contents were changed
+730 values: byte 0 is .., where 0 is due
+731 account, the form: other values are due
+732 account, the form: other values are due
+733 account, the form: other values are due
+734 values: changed about byte 48,
+741 book: its contents were changed
+742 book: its contents were changed
+743 remove, an account that is there: byte 0 of the book is .., where 00 is due
+744 add, just enough room: byte 25 of the book is .., where 00 is due
+745 remove, an account that is there: byte 0 of the book is .., where 00 is due
+746 remove, an account that is there: byte 25 of the book is .., where 00 is due
+747 remove, an account that is there: byte 26 of the book is .., where .. is due
+748 remove, an account that is there: byte 26 of the book is .., where .. is due
+749 remove, the form: other bytes are due
+750 remove, the form: other bytes are due
+751 book: changed about byte
+752 add, just enough room: byte 2 of the book is .., where 00 is due
+753 remove, an account that is there: byte 0 of the book is .., where .. is due
+754 add, just enough room: byte 14 of the book is .., where .. is due
+755 add, the form: other bytes are due
+756 add, no accounts: byte 23 of the book is .., where .. is due
+761 add, a neighbour's number at its limit: the answer is 19, where 17 is due
+762 find, a number at its limit: the answer is 18, where 17 is due
+763 remove, a number at its limit: the answer is 18, where 17 is due
+764 check, a number at its limit: the answer is 18, where 17 is due
+765 check, a number at its limit: the answer is 7, where 17 is due
+766 check, two refusals: the answer is 7, where 18 is due
+767 check, two refusals: the answer is 17, where 2 is due
+768 check, two refusals: the answer is 18, where 2 is due
+769 add, two refusals: the answer is 17, where 1 is due
+770 add, a neighbour's number at its limit: the answer is 19, where 17 is due
+771 add, just enough room: the answer is .., where 0 is due
+772 add, the form: other bytes are due
+773 book: changed about byte
+774 find, no accounts: the answer is 17, where 18 is due
+775 find, no accounts: the answer is 19, where 18 is due
+776 find, a number at its limit: the answer is 18, where 17 is due
+777 add, a neighbour's number at its limit: the answer is 19, where 17 is due
+778 remove, a number at its limit: the answer is 18, where 17 is due
+779 check, a number at its limit: the answer is 18, where 17 is due
+780 check, two refusals: the answer is 17, where 2 is due
+781 check, another password: same is 0
+782 remove, no accounts: the answer is 0, where 18 is due
+783 check, no accounts: the answer is 0, where 18 is due
+784 add, a number at its limit: the answer is 3, where 10 is due
+785 add, two refusals: the answer is 4, where 3 is due
+786 add, two refusals: the answer is 6, where 5 is due
+787 add, two refusals: the answer is 3, where 1 is due
+788 add, a bit of T: the answer is 0, where 4 is due
+789 add, a number at its limit: the answer is 0, where 4 is due
+791 matrix: changed about byte 0,
+792 check, an account that is there: the rounds is 36, where 30 is due
+793 check, the account's password: same is 0
+794 check, the account's password: same is 0
+795 check, the account's password: same is 0
+796 check, the account's password: same is 0
+801 find, one refusal: the answer is 0, where 17 is due
+802 account, a damaged mark: the size is .., where 0 is due
+803 account, a damaged mark: the size is .., where 0 is due
+804 account, a damaged mark: the size is .., where 0 is due
+805 find, one refusal: the answer is 0, where 17 is due
+806 find, one refusal: the answer is 0, where 17 is due
+807 find, the form: the place is 0, where 280 is due
+808 find, a cut book: the answer is 18, where 17 is due
+809 find, a number at its limit: the answer is 18, where 17 is due
+810 find, no accounts: the answer is 17, where 18 is due
+811 add, two refusals: the answer is 19, where 17 is due
+812 find, a bit of the used length: the answer is 0, where 17 is due
+813 account, a bit of the place: the size is .., where 0 is due
+814 around the book: an account 1 bytes before it is read
+821 find, one refusal: the answer is 0, where 17 is due
+822 find, one refusal: the answer is 0, where 17 is due
+823 find, a number twice: the answer is 0, where 17 is due
+824 find, one refusal: the answer is 0, where 17 is due
+825 find, one refusal: the answer is 0, where 17 is due
+826 find, close numbers: the answer is .., where 0 is due
+827 find, close numbers: the answer is .., where 0 is due
+828 find, close numbers: the place is 0, where 69 is due
+829 find, close numbers: the place is 0, where 92 is due
+831 add, the form: other bytes are due
+832 add, the form: other bytes are due
+833 add, the form: other bytes are due
+834 add, the form: other bytes are due
+835 add, the form: other bytes are due
+836 add, the form: other bytes are due
+837 add, the form: other bytes are due
+841 add, a number at its limit: the answer is 0, where 1 is due
+842 add, a number at its limit: the answer is 0, where 1 is due
+843 add, no accounts: the answer is 1, where 19 is due
+844 add, a number at its limit: the answer is 1, where 0 is due
+845 add, a number at its limit: the answer is 0, where 3 is due
+846 add, a number at its limit: the answer is 0, where 10 is due
+847 add, no accounts: the answer is 3, where 19 is due
+848 add, a number at its limit: the answer is .., where 0 is due
+850 add, a number at its limit: the answer is 0, where 4 is due
+851 add, a number at its limit: the answer is 4, where 0 is due
+852 add, the form: other bytes are due
+853 add, a number at its limit: the answer is 0, where 5 is due
+854 add, a number at its limit: the answer is 0, where 5 is due
+855 add, no accounts: the answer is 5, where 19 is due
+856 add, the form: other bytes are due
+857 add, a number at its limit: the answer is 0, where 6 is due
+858 add, a number at its limit: the answer is 0, where 6 is due
+859 add, no accounts: the answer is 6, where 19 is due
+860 add, a number at its limit: the answer is 6, where 0 is due
+871 find, a number at its limit: the answer is 0, where 17 is due
+872 find, a number at its limit: the answer is 0, where 17 is due
+873 find, close numbers: the answer is .., where 0 is due
+874 account, the longest account: the size is 0, where 1102 is due
+875 find, a number at its limit: the answer is 0, where 17 is due
+876 find, a number at its limit: the answer is 0, where 17 is due
+877 add, the form: other bytes are due
+878 account, the longest account: the size is 0, where 1102 is due
+881 check, the account's password: same is 0
+882 find, the form: the place is 0, where 280 is due
+883 find, a number at its limit: the answer is 0, where 17 is due
+884 find, a number at its limit: the answer is 0, where 17 is due
+885 account, the longest account: the size is 0, where 1102 is due
+886 find, the form: the place is 0, where 280 is due
+887 find, a number at its limit: the answer is 0, where 17 is due
+888 find, a number at its limit: the answer is 0, where 17 is due
+889 account, the longest account: the size is 0, where 1102 is due
+890 add, the form: other bytes are due
+END
+
 # Those that leave something on the stack, and what is said of each. No linker looks up what they call while they run, since
 # it would leave more there.
 report_left() { # FAULT PROGRAM
     compile_fault "$1"
-    cc "$wrapped" -Wl,-z,now "$work"/{"$2",marked,calls,lent}.o "${faulty[@]}" "$library" -o "$work/faulty" || exit 1
+    cc "$wrapped" -Wl,-z,now "$work"/{"$2",marked,calls,book_model,lent}.o "${faulty[@]}" "$library" -o "$work/faulty" || exit 1
     "$work/faulty" 2>&1 && echo 'nothing is found'
 }
-for program in left left_lines; do
+for program in left left_lines left_books; do
     same 'the stack of the wrapped library without a fault' 'nothing is found' "$(report_left 0 $program | tail -n 1)"
 done
 while read -r fault words; do
-    program=left
-    [ "$fault" -lt 100 ] || program=left_lines
+    case $((fault / 100)) in
+    0) program=left ;;
+    1) program=left_lines ;;
+    *) program=left_books ;;
+    esac
     same "fault $fault" "FAILED: $words" "$(report_left "$fault" $program)"
     found=$((found + 1))
 done <<'END'
@@ -367,5 +624,11 @@ done <<'END'
 172 line_read: the text of the key from byte 3 on is left on the stack
 173 line_write: the key from byte 0 on is left on the stack
 174 line_write: the text of the key from byte 3 on is left on the stack
+951 book_check: the key from byte 0 on is left on the stack
+952 book_check: the password from byte 0 on is left on the stack
+953 book_check: 1 words on the stack depend on the key
+954 book_add: the key from byte 0 on is left on the stack
+955 book_remove: the key from byte 0 on is left on the stack
+956 book_find: the key from byte 0 on is left on the stack
 END
 echo "C interface: $(sed 's/^vectors: //' "$work/ran"); $headers wrong headers, $wrong wrong lines and $found faulty libraries were found"

@@ -1,8 +1,8 @@
 #!/usr/bin/env bash
 # The C interface under valgrind's memcheck: no byte outside of what is lent, nothing that depends on what lent memory
-# held before, no touch by a refused call of more than its answer and the line that it reads, no branch on the bytes of a
-# stored key or of one that a line is written from, nor on a word of the record that is taken apart; and faulty libraries,
-# which it finds.
+# held before, no touch by a refused call of more than its answer, the line that it reads and the heads in a book, no branch
+# on the bytes of a stored key, of one that a line is written from or of a salt or a key in a book, nor on a word of the
+# record that is taken apart; and faulty libraries, which it finds.
 set -eu
 cd "$(dirname "$0")/.."
 . tests/c/build.sh
@@ -13,40 +13,48 @@ memcheck() { # PROGRAM ARGUMENT..
 }
 
 flags+=(-g)
-compile memcheck memcheck_lines memcheck_choices watched refusals records lines choosing vectors fields calls line_calls choice_calls lent
+compile memcheck memcheck_lines memcheck_choices memcheck_books watched refusals records lines choosing books book_refusals \
+    vectors vector_books fields calls line_calls choice_calls book_calls book_due book_model lent
 cc "$work"/{memcheck,watched,calls,lent}.o "$library" -o "$work/memcheck"
 cc "$work"/{memcheck_lines,watched,calls,lent}.o "$library" -o "$work/memcheck_lines"
 cc "$work"/{memcheck_choices,watched,calls,lent}.o "$library" -o "$work/memcheck_choices"
+cc "$work"/{memcheck_books,book_model,watched,calls,lent}.o "$library" -o "$work/memcheck_books"
 cc "$work"/{refusals,calls,lent}.o "$library" -o "$work/refusals"
 cc "$work"/{records,calls,lent}.o "$library" -o "$work/records"
 cc "$work"/{lines,calls,line_calls,lent}.o "$library" -o "$work/lines"
 cc "$work"/{choosing,calls,choice_calls,lent}.o "$library" -o "$work/choosing"
-cc "$work"/{vectors,fields,calls,line_calls,choice_calls,lent}.o "$library" -o "$work/vectors"
+cc "$work"/{books,book_due,book_calls,book_model,calls,lent}.o "$library" -o "$work/books"
+cc "$work"/{book_refusals,book_due,book_calls,book_model,calls,lent}.o "$library" -o "$work/book_refusals"
+cc "$work"/{vectors,vector_books,fields,calls,line_calls,choice_calls,book_calls,book_model,lent}.o "$library" -o "$work/vectors"
 # A pipe would hide the status.
 memcheck "$work/memcheck" >"$work/ran"
 memcheck "$work/memcheck_lines" >>"$work/ran"
 memcheck "$work/memcheck_choices" >>"$work/ran"
+memcheck "$work/memcheck_books" >>"$work/ran"
 cat "$work/ran"
 memcheck "$work/refusals"
 memcheck "$work/records"
 memcheck "$work/lines"
 memcheck "$work/choosing"
+memcheck "$work/books"
+memcheck "$work/book_refusals"
 cc "${flags[@]}" examples/derive_and_check.c "$library" -o "$work/example"
 same 'the example' "$(cat examples/derive_and_check.out)" "$(printf 'correct horse' | memcheck "$work/example" 'salt of 16 bytes' 1 256 64 32)"
 
-# Every third of the vectors whose matrix has fewer than 1,000 words, since all of them would take minutes, and all lines and
-# choices.
-grep -v ' op=choose ' vectors/lyra2.txt | grep -E ' op=(cost|walk) | matrix_words=[0-9]{1,3} ' | awk 'NR % 3 == 0' >"$work/small"
-grep -E ' op=(choose|line_read|line_write) ' vectors/lyra2.txt >>"$work/small"
+# Every third of the vectors whose matrix has fewer than 1,000 words, since all of them would take minutes, and all lines,
+# choices and books.
+grep -vE ' op=(choose|book_[a-z]+) ' vectors/lyra2.txt | grep -E ' op=(cost|walk) | matrix_words=[0-9]{1,3} ' \
+    | awk 'NR % 3 == 0' >"$work/small"
+grep -E ' op=(choose|line_read|line_write|book_[a-z]+) ' vectors/lyra2.txt >>"$work/small"
 memcheck "$work/vectors" "$work/small"
 
 # ---- faulty libraries, and what is said of each
 report() { # FAULT PROGRAM
     compile_fault "$1"
-    cc "$wrapped" "$work"/{"$2",watched,calls,lent}.o "${faulty[@]}" "$library" -o "$work/faulty" || exit 1
+    cc "$wrapped" "$work"/{"$2",watched,calls,book_model,lent}.o "${faulty[@]}" "$library" -o "$work/faulty" || exit 1
     memcheck "$work/faulty" 2>&1 && echo 'nothing is found'
 }
-for program in memcheck memcheck_lines memcheck_choices; do
+for program in memcheck memcheck_lines memcheck_choices memcheck_books; do
     same 'the wrapped library without a fault' 'nothing is found' "$(report 0 $program | tail -n 1)"
 done
 found=0
@@ -54,6 +62,7 @@ while read -r fault words; do
     case $((fault / 100)) in
     1) program=memcheck_lines ;;
     5) program=memcheck_choices ;;
+    [789]) program=memcheck_books ;;
     *) program=memcheck ;;
     esac
     report "$fault" $program >"$work/log" || true
@@ -114,6 +123,39 @@ done <<'END'
 561 values: depends on what the memory held
 562 Conditional jump or move depends on uninitialised value
 563 Invalid read of size 8
+705 place: depends on what the memory held
+709 used_after: depends on what the memory held
+713 used_after: depends on what the memory held
+717 same: depends on what the memory held
+720 counts: depends on what the memory held
+721 matrix: byte [0-9]* is not zero
+722 matrix: written past its used part
+723 Invalid write of size 8
+730 values: depends on what the memory held
+734 Invalid write of size 8
+742 Invalid write of size 1
+743 remove: byte 0 is not zero
+747 Invalid write of size 1
+748 Invalid write of size 1
+756 Invalid write of size 1
+773 Invalid write of size
+814 Invalid read of size 1
+901 Invalid read of size 1
+902 Invalid read of size 1
+903 Invalid read of size 1
+904 Invalid read of size 1
+905 Conditional jump or move depends on uninitialised value
+906 Conditional jump or move depends on uninitialised value
+907 Conditional jump or move depends on uninitialised value
+908 Invalid read of size 1
+909 Invalid write of size 1
+910 Invalid read of size 1
+911 Invalid write of size 8
+912 place: depends on what the memory held
+913 used_after: depends on what the memory held
+914 same: depends on what the memory held
+915 values: depends on what the memory held
+916 Invalid read of size 1
 END
 calls=$(awk '{ sum += $(NF - 1) } END { print sum }' "$work/ran")
 echo "valgrind: $calls calls without an error, $found faulty libraries were found"

@@ -192,7 +192,8 @@ uint32_t __wrap_lyra2_book_find(BOOK_PARAMETERS, size_t *place)
     if (has(BRANCH_ON_A_KEY_IN_FIND, found && book[at + account.size - 1] == 1)
         || has(BRANCH_ON_A_SALT_IN_FIND, found && book[at + LYRA2_ACCOUNT_HEAD] == 1))
         seen = 1;
-    *place += held - held;
+    if (FAULT == PLACE_HELD_USED)
+        *place += held - held;
     if (has(FIND_LEAVES_A_KEY, found))
         leave(book + at + LYRA2_ACCOUNT_HEAD + account.salt, account.key);
     return numbered(answer);
@@ -318,7 +319,8 @@ static uint32_t add(uint8_t *book, size_t book_len, size_t used, const struct ad
         spoil_refused_add(book, used, added, answer, at, old.size);
     if (FAULT == ADDED_LENGTH_NOT_STORED)
         *used_after = held;
-    *used_after += held - held;
+    if (FAULT == LENGTH_HELD_USED)
+        *used_after += held - held;
     return numbered(answer);
 }
 
@@ -463,7 +465,8 @@ uint32_t __wrap_lyra2_book_check(CHECK_PARAMETERS)
         seen = password[0];
     if (has(REFUSED_CHECK_REWRITES_THE_MATRIX, !accepted && matrix_words > 0))
         *(volatile uint64_t *)matrix = *(volatile uint64_t *)matrix;
-    *same += held - held;
+    if (FAULT == SAME_HELD_USED)
+        *same += held - held;
     return numbered(answer);
 }
 
@@ -488,6 +491,7 @@ size_t __wrap_lyra2_book_account(const uint8_t *book, size_t book_len, size_t pl
         values[LYRA2_ACCOUNT_VALUES] = 0;
     if (has(BOOK_WRITTEN_BY_ACCOUNT, found))
         ((uint8_t *)book)[place] = 'c';
-    values[0] += held - held;
+    if (FAULT == VALUES_HELD_USED)
+        values[0] += held - held;
     return n.size - has(SIZE_WITHOUT_THE_HEAD, found) * LYRA2_ACCOUNT_HEAD;
 }
