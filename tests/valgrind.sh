@@ -133,7 +133,7 @@ done <<'END'
 723 Invalid write of size 8
 730 values: depends on what the memory held
 734 Invalid write of size 8
-742 Invalid write of size 1
+742 Invalid read of size 1
 743 remove: byte 0 is not zero
 747 Invalid write of size 1
 748 Invalid write of size 1
