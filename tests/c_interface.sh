@@ -446,77 +446,45 @@ done <<'END'
 712 remove, the form: other bytes are due
 713 used_after: byte 0 is .., where 0 is due
 714 used_after: byte 0 is .., where 0 is due
-715 check, an account that is there: same is 1, where 0 is due
-716 check, the account's password: same is 0
-717 same: byte 0 is .., where 0 is due
-718 same: byte 0 is .., where 0 is due
-719 check, an account that is there: the rounds is [0-9]*, where 30 is due
-720 counts: byte 16 is .., where 0 is due
-721 matrix: byte 280 is .., where 0 is due
-722 matrix: changed about byte 288,
-723 matrix: changed about byte 0,
-724 book: its contents were changed
-725 book: its contents were changed
-726 book: its contents were changed
-727 password: its contents were changed
-728 salt: its contents were changed
-729 key: its contents were changed
-730 values: byte 0 is .., where 0 is due
-731 account, the form: other values are due
-732 account, the form: other values are due
-733 account, the form: other values are due
-734 values: changed about byte 48,
-741 book: its contents were changed
-742 book: its contents were changed
-743 remove, an account that is there: byte 0 of the book is .., where 00 is due
-744 add, just enough room: byte 25 of the book is .., where 00 is due
-745 remove, an account that is there: byte 0 of the book is .., where 00 is due
-746 remove, an account that is there: byte 25 of the book is .., where 00 is due
-747 remove, an account that is there: byte 26 of the book is .., where .. is due
-748 remove, an account that is there: byte 26 of the book is .., where .. is due
-749 remove, the form: other bytes are due
-750 remove, the form: other bytes are due
-751 book: changed about byte
-752 add, just enough room: byte 2 of the book is .., where 00 is due
-753 remove, an account that is there: byte 0 of the book is .., where .. is due
-754 add, just enough room: byte 14 of the book is .., where .. is due
-755 add, the form: other bytes are due
-756 add, no accounts: byte 23 of the book is .., where .. is due
-761 add, a neighbour's number at its limit: the answer is 19, where 17 is due
-762 find, a number at its limit: the answer is 18, where 17 is due
-763 remove, a number at its limit: the answer is 18, where 17 is due
-764 check, a number at its limit: the answer is 18, where 17 is due
-765 check, a number at its limit: the answer is 7, where 17 is due
-766 check, two refusals: the answer is 7, where 18 is due
-767 check, two refusals: the answer is 17, where 2 is due
-768 check, two refusals: the answer is 18, where 2 is due
-769 add, two refusals: the answer is 17, where 1 is due
-770 add, a neighbour's number at its limit: the answer is 19, where 17 is due
-771 add, just enough room: the answer is .., where 0 is due
-772 add, the form: other bytes are due
-773 book: changed about byte
-774 find, no accounts: the answer is 17, where 18 is due
-775 find, no accounts: the answer is 19, where 18 is due
-776 find, a number at its limit: the answer is 18, where 17 is due
-777 add, a neighbour's number at its limit: the answer is 19, where 17 is due
-778 remove, a number at its limit: the answer is 18, where 17 is due
-779 check, a number at its limit: the answer is 18, where 17 is due
-780 check, two refusals: the answer is 17, where 2 is due
-781 check, another password: same is 0
-782 remove, no accounts: the answer is 0, where 18 is due
-783 check, no accounts: the answer is 0, where 18 is due
-784 add, a number at its limit: the answer is 3, where 10 is due
-785 add, two refusals: the answer is 4, where 3 is due
-786 add, two refusals: the answer is 6, where 5 is due
-787 add, two refusals: the answer is 3, where 1 is due
-788 add, a bit of T: the answer is 0, where 4 is due
-789 add, a number at its limit: the answer is 0, where 4 is due
-791 matrix: changed about byte 0,
-792 check, an account that is there: the rounds is 36, where 30 is due
-793 check, the account's password: same is 0
-794 check, the account's password: same is 0
-795 check, the account's password: same is 0
-796 check, the account's password: same is 0
+715 book: its contents were changed
+716 salt: its contents were changed
+717 key: its contents were changed
+721 book: its contents were changed
+722 book: its contents were changed
+723 remove, an account that is there: byte 0 of the book is .., where 00 is due
+724 add, just enough room: byte 25 of the book is .., where 00 is due
+725 remove, an account that is there: byte 0 of the book is .., where 00 is due
+726 remove, an account that is there: byte 25 of the book is .., where 00 is due
+727 remove, an account that is there: byte 26 of the book is .., where .. is due
+728 remove, an account that is there: byte 26 of the book is .., where .. is due
+729 remove, the form: other bytes are due
+730 remove, the form: other bytes are due
+731 book: changed about byte
+732 add, just enough room: byte 2 of the book is .., where 00 is due
+733 remove, an account that is there: byte 0 of the book is .., where .. is due
+734 add, just enough room: byte 14 of the book is .., where .. is due
+735 add, the form: other bytes are due
+736 add, no accounts: byte 23 of the book is .., where .. is due
+741 add, a neighbour's number at its limit: the answer is 19, where 17 is due
+742 find, a number at its limit: the answer is 18, where 17 is due
+743 remove, a number at its limit: the answer is 18, where 17 is due
+744 add, two refusals: the answer is 17, where 1 is due
+745 add, a neighbour's number at its limit: the answer is 19, where 17 is due
+746 add, just enough room: the answer is .., where 0 is due
+747 add, the form: other bytes are due
+748 book: changed about byte
+749 find, no accounts: the answer is 17, where 18 is due
+750 find, no accounts: the answer is 19, where 18 is due
+751 find, a number at its limit: the answer is 18, where 17 is due
+752 add, a neighbour's number at its limit: the answer is 19, where 17 is due
+753 remove, a number at its limit: the answer is 18, where 17 is due
+754 remove, no accounts: the answer is 0, where 18 is due
+755 add, a number at its limit: the answer is 3, where 10 is due
+756 add, two refusals: the answer is 4, where 3 is due
+757 add, two refusals: the answer is 6, where 5 is due
+758 add, two refusals: the answer is 3, where 1 is due
+759 add, a bit of T: the answer is 0, where 4 is due
+760 add, a number at its limit: the answer is 0, where 4 is due
 801 find, one refusal: the answer is 0, where 17 is due
 802 account, a damaged mark: the size is .., where 0 is due
 803 account, a damaged mark: the size is .., where 0 is due
@@ -584,6 +552,38 @@ done <<'END'
 888 find, a number at its limit: the answer is 0, where 17 is due
 889 account, the longest account: the size is 0, where 1102 is due
 890 add, the form: other bytes are due
+901 check, an account that is there: same is 1, where 0 is due
+902 check, the account's password: same is 0
+903 same: byte 0 is .., where 0 is due
+904 same: byte 0 is .., where 0 is due
+905 check, an account that is there: the rounds is [0-9]*, where 30 is due
+906 counts: byte 16 is .., where 0 is due
+907 matrix: byte 280 is .., where 0 is due
+908 matrix: changed about byte 288,
+909 matrix: changed about byte 0,
+910 book: its contents were changed
+911 book: its contents were changed
+912 password: its contents were changed
+913 values: byte 0 is .., where 0 is due
+914 account, the form: other values are due
+915 account, the form: other values are due
+916 account, the form: other values are due
+917 values: changed about byte 48,
+921 check, a number at its limit: the answer is 18, where 17 is due
+922 check, a number at its limit: the answer is 7, where 17 is due
+923 check, two refusals: the answer is 7, where 18 is due
+924 check, two refusals: the answer is 17, where 2 is due
+925 check, two refusals: the answer is 18, where 2 is due
+926 check, a number at its limit: the answer is 18, where 17 is due
+927 check, two refusals: the answer is 17, where 2 is due
+928 check, another password: same is 0
+929 check, no accounts: the answer is 0, where 18 is due
+931 matrix: changed about byte 0,
+932 check, an account that is there: the rounds is 36, where 30 is due
+933 check, the account's password: same is 0
+934 check, the account's password: same is 0
+935 check, the account's password: same is 0
+936 check, the account's password: same is 0
 END
 
 # Those that leave something on the stack, and what is said of each. No linker looks up what they call while they run, since
@@ -624,11 +624,11 @@ done <<'END'
 172 line_read: the text of the key from byte 3 on is left on the stack
 173 line_write: the key from byte 0 on is left on the stack
 174 line_write: the text of the key from byte 3 on is left on the stack
+791 book_add: the key from byte 0 on is left on the stack
+792 book_remove: the key from byte 0 on is left on the stack
+793 book_find: the key from byte 0 on is left on the stack
 951 book_check: the key from byte 0 on is left on the stack
 952 book_check: the password from byte 0 on is left on the stack
 953 book_check: 1 words on the stack depend on the key
-954 book_add: the key from byte 0 on is left on the stack
-955 book_remove: the key from byte 0 on is left on the stack
-956 book_find: the key from byte 0 on is left on the stack
 END
 echo "C interface: $(sed 's/^vectors: //' "$work/ran"); $headers wrong headers, $wrong wrong lines and $found faulty libraries were found"

@@ -126,36 +126,36 @@ done <<'END'
 705 place: depends on what the memory held
 709 used_after: depends on what the memory held
 713 used_after: depends on what the memory held
-717 same: depends on what the memory held
-720 counts: depends on what the memory held
-721 matrix: byte [0-9]* is not zero
-722 matrix: written past its used part
-723 Invalid write of size 8
-730 values: depends on what the memory held
-734 Invalid write of size 8
-742 Invalid read of size 1
-743 remove: byte 0 is not zero
-747 Invalid write of size 1
-748 Invalid write of size 1
-756 Invalid write of size 1
-773 Invalid write of size
+722 Invalid read of size 1
+723 remove: byte 0 is not zero
+727 Invalid write of size 1
+728 Invalid write of size 1
+736 Invalid write of size 1
+748 Invalid write of size
+771 Invalid read of size 1
+772 Invalid read of size 1
+773 Invalid read of size 1
+774 Invalid read of size 1
+775 Conditional jump or move depends on uninitialised value
+776 Conditional jump or move depends on uninitialised value
+777 Invalid read of size 1
+778 Invalid write of size 1
+779 place: depends on what the memory held
+780 used_after: depends on what the memory held
+781 Invalid read of size 1
 814 Invalid read of size 1
-901 Invalid read of size 1
-902 Invalid read of size 1
-903 Invalid read of size 1
-904 Invalid read of size 1
-905 Conditional jump or move depends on uninitialised value
-906 Conditional jump or move depends on uninitialised value
-907 Conditional jump or move depends on uninitialised value
-908 Invalid read of size 1
-909 Invalid write of size 1
-910 Invalid read of size 1
-911 Invalid write of size 8
-912 place: depends on what the memory held
-913 used_after: depends on what the memory held
-914 same: depends on what the memory held
-915 values: depends on what the memory held
-916 Invalid read of size 1
+903 same: depends on what the memory held
+906 counts: depends on what the memory held
+907 matrix: byte [0-9]* is not zero
+908 matrix: written past its used part
+909 Invalid write of size 8
+913 values: depends on what the memory held
+917 Invalid write of size 8
+941 Conditional jump or move depends on uninitialised value
+942 Invalid read of size 1
+943 Invalid write of size 8
+944 same: depends on what the memory held
+945 values: depends on what the memory held
 END
 calls=$(awk '{ sum += $(NF - 1) } END { print sum }' "$work/ran")
 echo "valgrind: $calls calls without an error, $found faulty libraries were found"

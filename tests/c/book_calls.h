@@ -1,4 +1,4 @@
-/* Calls with a book of accounts, in which everything that is lent lies between guards, which are looked at afterwards. */
+/* Calls with a book of accounts, in which everything that is lent lies between guards. */
 #ifndef BOOK_CALLS_H
 #define BOOK_CALLS_H
 
@@ -7,8 +7,9 @@
 #include "lyra2.h"
 
 /*
- * Each asks, and requires that nothing changed but what the answer allows, and that the fields of a refused call's answer
- * are zero. An accepted check leaves zeros in the matrix that its account uses. `after` gets the lent bytes of the book.
+ * Each asks, and requires that nothing changed but what the answer allows, and that the fields of a refused call's
+ * answer are zero. An accepted check leaves zeros in the matrix that its account uses. `after` gets the lent bytes of the
+ * book.
  */
 uint32_t ask_find(struct book book, uint32_t number, size_t *place);
 uint32_t ask_add(struct book book, const struct account *account, uint8_t *after, size_t *used_after);

@@ -52,7 +52,8 @@ static void require_cuts(void)
             require_found("a cut book", book, 1, used >= first && good ? LYRA2_ACCEPTED : absent);
             require_found("a cut book", book, 2, absent);
             require_removed("a cut book", book, 513, used >= second && good ? LYRA2_ACCEPTED : absent);
-            require_checked("a cut book", three[0].key, book, UINT32_MAX, MATRIX, used == whole ? LYRA2_ACCEPTED : absent);
+            require_checked("a cut book", three[0].key, book, UINT32_MAX, MATRIX,
+                            used == whole ? LYRA2_ACCEPTED : absent);
             require_added("a cut book", book, &three[2], BY_THE_MODEL);
             for (size_t place = 0; place <= used; place++)
                 require_account("a cut book", (struct bytes){bytes, used}, place);

@@ -18,7 +18,7 @@ void require_checked(const char *what, struct bytes password, struct book book, 
                      uint32_t due);
 void require_account(const char *what, struct bytes part, size_t place);
 
-/* Requires the same answer of the four calls that judge the whole book, with a matrix of so many words for the check. */
+/* Requires the same answer of the four calls that judge the whole book; the check has a matrix of so many words. */
 void require_all(const char *what, struct book book, const struct account *account, size_t matrix_words, uint32_t due);
 
 /* Ends the program unless a value is the one that is due. */

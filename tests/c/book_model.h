@@ -38,7 +38,8 @@ size_t model_account(struct bytes part, size_t place, struct account *account);
 /* The account of a number and its place; the answer, and zeros after a refusal. */
 uint32_t model_find(struct book book, uint32_t number, struct account *account, size_t *place);
 
-/* The lent bytes and the used length after an account is added, or removed; after a refusal the bytes as they were and 0. */
+/* The lent bytes and the used length after an account is added, or removed; after a refusal the bytes as they were and
+ * 0. */
 uint32_t model_add(struct book book, const struct account *account, uint8_t *after, size_t *used_after);
 uint32_t model_remove(struct book book, uint32_t number, uint8_t *after, size_t *used_after);
 

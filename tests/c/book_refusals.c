@@ -1,7 +1,7 @@
 /*
  * The refusals of the calls with a book: of every two checks that apply the one that is tested first is answered, each
- * from several sides; lengths, places and numbers of 64 bits, no bit of which is lost; accounts that stand around what is
- * lent; and arguments that overlap.
+ * from several sides; lengths, places and numbers of 64 bits, no bit of which is lost; accounts that stand around what
+ * is lent; and arguments that overlap.
  */
 #include "book_calls.h"
 #include "book_due.h"

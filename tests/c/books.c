@@ -323,7 +323,8 @@ static void require_header(void)
     struct book book = build(&longest, 1, 0);
     require_value("header", "sizes", "the longest account", book.used, LYRA2_ACCOUNT_MAX);
     require_account("the longest account", book.lent, 0);
-    require_value("header", "sizes", "the smallest account", LYRA2_ACCOUNT_BYTES(LYRA2_SALT_MIN, LYRA2_KEY_MIN), SMALLEST);
+    require_value("header", "sizes", "the smallest account", LYRA2_ACCOUNT_BYTES(LYRA2_SALT_MIN, LYRA2_KEY_MIN),
+                  SMALLEST);
     require_value("header", "sizes", "the values", LYRA2_ACCOUNT_VALUES, 6);
 }
 

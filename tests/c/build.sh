@@ -25,10 +25,11 @@ compile() { # NAME..
 # numbers, and is as good as without a fault for all others.
 compile_fault() { # FAULT
     local hundreds=(faulty faulty_lines faulty_settings faulty_settings faulty_records faulty_choices faulty_rule
-        faulty_books faulty_accounts faulty_books)
+        faulty_books faulty_accounts faulty_book_checks)
     local source own object
     faulty=()
-    for source in faulty faulty_lines faulty_settings faulty_records faulty_choices faulty_rule faulty_books faulty_accounts; do
+    for source in faulty faulty_lines faulty_settings faulty_records faulty_choices faulty_rule faulty_books faulty_accounts \
+        faulty_book_checks; do
         own=0
         [ "$source" != "${hundreds[$1 / 100]}" ] || own=$1
         object=$work/${source}_$own.o

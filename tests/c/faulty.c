@@ -3,7 +3,8 @@
  * test and the library. FAULT chooses the fault; 0 is none, those from 60 on are seen by memcheck alone, and those from
  * 70 on by the search of the stack alone. Those from 100 on are in faulty_lines.c, those from 200 on in
  * faulty_settings.c, those from 400 on in faulty_records.c, those from 500 on in faulty_choices.c, those from 600 on in
- * faulty_rule.c, those from 700 and from 900 on in faulty_books.c and those from 800 on in faulty_accounts.c.
+ * faulty_rule.c, those from 700 on in faulty_books.c, those from 800 on in faulty_accounts.c and those from 900 on in
+ * faulty_book_checks.c.
  */
 #include "faulty.h"
 #include "lyra2.h"

@@ -63,6 +63,11 @@ bool is_good(const uint8_t *book, size_t book_len, size_t used);
 /* The account of a number and its place; false if there is none. */
 bool look_up(const uint8_t *book, size_t used, uint32_t number, struct account_read *account, size_t *place);
 
+/* The account of a number and its place, or why there is none. A call may have left the judgement of the book out, or may
+ * look for the account before it. */
+uint32_t judge(const uint8_t *book, size_t book_len, size_t used, uint32_t number, bool unjudged, bool missing_first,
+               struct account_read *account, size_t *place);
+
 /* The first of the checks of an account that is added. */
 uint32_t refuse_account(const struct account_read *account);
 

@@ -215,3 +215,13 @@ bool look_up(const uint8_t *book, size_t used, uint32_t number, struct account_r
     }
     return false;
 }
+
+uint32_t judge(const uint8_t *book, size_t book_len, size_t used, uint32_t number, bool unjudged, bool missing_first,
+               struct account_read *account, size_t *place)
+{
+    bool good = is_good(book, book_len, used) || unjudged;
+    bool found = (good || missing_first) && look_up(book, used < book_len ? used : book_len, number, account, place);
+    if (!good && (found || !missing_first))
+        return LYRA2_REFUSED_BOOK;
+    return found ? LYRA2_ACCEPTED : LYRA2_REFUSED_NO_ACCOUNT;
+}

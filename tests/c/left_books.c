@@ -1,8 +1,8 @@
 /*
- * What the calls with a book of accounts leave on the stack that they used. It is searched, at every byte, for eight bytes
- * of the account's key, of the password and of the end matrix. Then two calls that differ in the password and in the
- * account's key alone are compared: what differs on their stacks was made from these. After a check that may be a row, a
- * column or a place in the matrix, as the visits pick them.
+ * What the calls with a book of accounts leave on the stack that they used. It is searched, at every byte, for eight
+ * bytes of the account's key, of the password and of the end matrix. Then two calls that differ in the password and in
+ * the account's key alone are compared: what differs on their stacks was made from these. After a check that may be a
+ * row, a column or a place in the matrix, as the visits pick them.
  */
 #include "book_model.h"
 #include "marked.h"
@@ -34,7 +34,8 @@ static size_t searched, most_bytes, pairs;
 
 static void check(void)
 {
-    answer = lyra2_book_check(password, password_len, book, sizeof book, used, NUMBER, matrix, MOST_MATRIX, &same, counts);
+    answer = lyra2_book_check(password, password_len, book, sizeof book, used, NUMBER, matrix, MOST_MATRIX, &same,
+                              counts);
 }
 
 static void add(void)
@@ -137,8 +138,8 @@ static void prepare_side(struct side *side)
     }
     uint32_t recorded = lyra2_derive_recorded(
         side->password, password_len, salt, account.salt.length, account.time, account.rows, account.columns,
-        LYRA2_REDUCED_ROUNDS_USUAL, LYRA2_ROTATION_USUAL, LYRA2_MIXER_USUAL, side->key, account.key.length, side->matrix,
-        MOST_MATRIX, record, MOST_RECORD, state, counts);
+        LYRA2_REDUCED_ROUNDS_USUAL, LYRA2_ROTATION_USUAL, LYRA2_MIXER_USUAL, side->key, account.key.length,
+        side->matrix, MOST_MATRIX, record, MOST_RECORD, state, counts);
     if (recorded != LYRA2_ACCEPTED)
         fail("refused: %s", lyra2_sentence(recorded));
 }

@@ -39,8 +39,8 @@ static void call_book(void)
 {
     switch (operation) {
     case 9:
-        answer = lyra2_book_add(book, sizeof book, used, REPLACED, TIME, ROWS, COLUMNS, salt, sizeof salt, key, sizeof key,
-                                &used_after);
+        answer = lyra2_book_add(book, sizeof book, used, REPLACED, TIME, ROWS, COLUMNS, salt, sizeof salt, key,
+                                sizeof key, &used_after);
         used = used_after;
         break;
     case 10:
@@ -69,6 +69,15 @@ static void fill_book(void)
             fail("book_add: %s", lyra2_sentence(answer));
         used = used_after;
     }
+}
+
+static void call_line(void)
+{
+    if (operation == 7)
+        answer = lyra2_line_write(LYRA2_TIME_MAX, LYRA2_ROWS_MAX, LYRA2_COLUMNS_MAX, salt, sizeof salt, key, sizeof key,
+                                  line, sizeof line, &line_len);
+    else
+        answer = lyra2_line_read(line, line_len, read_salt, sizeof read_salt, key, sizeof key, values);
 }
 
 static void call(void)
@@ -102,11 +111,8 @@ static void call(void)
         lyra2_record_pair(record[0], numbers);
         break;
     case 7:
-        answer = lyra2_line_write(LYRA2_TIME_MAX, LYRA2_ROWS_MAX, LYRA2_COLUMNS_MAX, salt, sizeof salt, key, sizeof key,
-                                  line, sizeof line, &line_len);
-        break;
     case 8:
-        answer = lyra2_line_read(line, line_len, read_salt, sizeof read_salt, key, sizeof key, values);
+        call_line();
         break;
     default:
         call_book();
