@@ -2,9 +2,9 @@
 
 use crate::exclusive::Change;
 use crate::failure::Failure;
-use crate::memory;
+use crate::memory::{self, Bytes};
 use crate::reading::fill;
-use crate::secret::{wipe_stack, Secret};
+use crate::secret::wipe_stack;
 use lyra2::{Book, Refusal};
 use std::fs::{self, File};
 use std::io::{self, ErrorKind};
@@ -23,7 +23,7 @@ pub enum Missing {
 }
 
 /// Reads the book of a file, which may be a link.
-pub fn read(path: &Path) -> Result<Book<Secret>, Failure> {
+pub fn read(path: &Path) -> Result<Book<Bytes>, Failure> {
     let of_path = |error| Failure::of_file(path, error);
     // Opened first, a pipe would make the program wait.
     let found = fs::metadata(path).map_err(of_path)?;
@@ -45,7 +45,7 @@ pub fn change<A>(
     path: &Path,
     room: usize,
     missing: Missing,
-    work: impl FnOnce(&mut Book<Secret>) -> Result<A, Refusal>,
+    work: impl FnOnce(&mut Book<Bytes>) -> Result<A, Refusal>,
 ) -> Result<A, Failure> {
     let (change, mut book) = begin(path, room, missing)?;
     let answer = work(&mut book);
@@ -57,7 +57,7 @@ pub fn change<A>(
 }
 
 /// The right to change the book of a file, and the book.
-fn begin(path: &Path, room: usize, missing: Missing) -> Result<(Change, Book<Secret>), Failure> {
+fn begin(path: &Path, room: usize, missing: Missing) -> Result<(Change, Book<Bytes>), Failure> {
     let of_path = |error| Failure::of_file(path, error);
     let change = Change::begin(path).map_err(of_path)?;
     let book = match change.old() {
@@ -70,7 +70,7 @@ fn begin(path: &Path, room: usize, missing: Missing) -> Result<(Change, Book<Sec
 }
 
 /// The book of an open file, with room for so many bytes more, but no more than a book has at most.
-fn load(path: &Path, mut file: File, room: usize) -> Result<Book<Secret>, Failure> {
+fn load(path: &Path, mut file: File, room: usize) -> Result<Book<Bytes>, Failure> {
     let of_path = |error: io::Error| Failure::of_file(path, error);
     let length = file.metadata().map_err(of_path)?.len();
     let length = usize::try_from(length).unwrap_or(usize::MAX);
@@ -79,6 +79,6 @@ fn load(path: &Path, mut file: File, room: usize) -> Result<Book<Secret>, Failur
         return Err(Failure::of_file(path, words));
     }
     let mut bytes = memory::bytes("book", (length + room).min(MOST))?;
-    let used = fill(&mut file, &mut bytes[..length]).map_err(of_path)?;
+    let used = fill(&mut file, &mut bytes.as_mut()[..length]).map_err(of_path)?;
     Ok(Book::new(bytes, used))
 }

@@ -1,7 +1,6 @@
 //! Memory to lend to the library.
 
 use crate::failure::Failure;
-use crate::secret::Secret;
 use lyra2::{Memory, NoMemory, Parameters};
 
 /// A matrix for these parameters.
@@ -29,14 +28,29 @@ pub fn record(parameters: Parameters) -> Result<Memory, Failure> {
     named("record", parameters.record())
 }
 
-/// So many zeros for what may hold keys.
-pub fn bytes(what: &str, count: usize) -> Result<Secret, Failure> {
-    let mut bytes = Vec::new();
-    if bytes.try_reserve_exact(count).is_err() {
-        return Err(missing(what, Some(count)));
+/// Bytes that may hold keys: locked and kept from core dumps as far as the system grants it, and wiped when dropped.
+pub struct Bytes {
+    words: Memory,
+    count: usize,
+}
+
+impl AsRef<[u8]> for Bytes {
+    fn as_ref(&self) -> &[u8] {
+        &self.words.bytes()[..self.count]
     }
-    bytes.resize(count, 0);
-    Ok(Secret::new(bytes))
+}
+
+impl AsMut<[u8]> for Bytes {
+    fn as_mut(&mut self) -> &mut [u8] {
+        &mut self.words.bytes_mut()[..self.count]
+    }
+}
+
+/// So many zeros.
+pub fn bytes(what: &str, count: usize) -> Result<Bytes, Failure> {
+    let words = Memory::zeros(count.div_ceil(size_of::<u64>()));
+    let words = words.map_err(|_| missing(what, Some(count)))?;
+    Ok(Bytes { words, count })
 }
 
 /// If the memory is not there the failure says what it was for.

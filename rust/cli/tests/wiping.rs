@@ -6,6 +6,7 @@
 
 mod common;
 
+use common::book::{written, Account};
 use common::line::{encode, Line};
 use common::terminal::Terminal;
 use common::{command, hex, words, TemporaryFile};
@@ -259,6 +260,38 @@ fn of_a_book_nothing_is_left() {
     assert_eq!(left_by(&list, b"", "account 7: time 1"), NOTHING);
     let remove = format!("book remove {of_book}");
     assert_eq!(left_by(&remove, b"", "account 7 removed\n"), NOTHING);
+}
+
+/// While the program waits for a password it holds the book, and the system has as much locked for it.
+#[test]
+fn a_book_is_kept_from_swapping() {
+    let accounts: Vec<Account> = (0..500)
+        .map(|number| Account::of_no_password(number, 64, 1024))
+        .collect();
+    let book = written(&accounts);
+    let file = TemporaryFile::holding(&book);
+    let mut child = command()
+        .args(words(&format!(
+            "book check --number 1 --book {}",
+            file.name()
+        )))
+        .stdin(Stdio::piped())
+        .spawn()
+        .expect("the program starts");
+    let status = format!("/proc/{}/status", child.id());
+    let locked = || {
+        let status = std::fs::read_to_string(&status).expect("a process of ours");
+        let line = status.lines().find_map(|line| line.strip_prefix("VmLck:"));
+        let number = words(line.expect("the kernel tells it"))[0].parse::<usize>();
+        1024 * number.expect("a number")
+    };
+    let began = Instant::now();
+    while locked() < book.len() {
+        assert!(began.elapsed() < PATIENCE, "{} bytes locked", locked());
+        std::thread::sleep(Duration::from_millis(20));
+    }
+    child.kill().expect("a process of ours");
+    child.wait().expect("the program ends");
 }
 
 /// The shell says its number and becomes the program, whose output is the full pipe.

@@ -92,6 +92,21 @@ impl Memory {
     pub fn granted(&self) -> Granted {
         self.granted
     }
+
+    /// The words as bytes, the lowest byte of each first: for secrets that are no words.
+    pub fn bytes(&self) -> &[u8] {
+        let bytes = size_of_val::<[u64]>(self);
+        // SAFETY: the words have so many bytes, all of them initialised, and a byte may lie anywhere. They are borrowed
+        // as this value is.
+        unsafe { std::slice::from_raw_parts(self.as_ptr().cast(), bytes) }
+    }
+
+    /// The words as bytes that can be written.
+    pub fn bytes_mut(&mut self) -> &mut [u8] {
+        let bytes = size_of_val::<[u64]>(self);
+        // SAFETY: as for reading, any bytes are words, and this value is borrowed by the caller alone.
+        unsafe { std::slice::from_raw_parts_mut(self.as_mut_ptr().cast(), bytes) }
+    }
 }
 
 // SAFETY: the words are this value's alone, as a Vec's are, and mappings and locks belong to the whole process.
