@@ -8,7 +8,8 @@ use lib.ListN.{length, drop, length-drop}
 use borrow.Author.Tests.{not-true, not-false}
 use Rattle.refusals.specs.Checks.{first}
 use Rattle.accounts.specs.declared.Entry.{Entry}
-use Rattle.accounts.specs.Accounts.{headBytes, headOf, limits, nothing, entryOf}
+use Rattle.text.specs.Text.{standsAt}
+use Rattle.accounts.specs.Accounts.{mark, headBytes, limits, nothing, entryOf}
 use Rattle.accounts.proofs.Decoding.{size-is, is-whole, unmarked, outside, cut-off, entry-whole, entry-none}
 use Rattle.account_heads.proofs.entry_at.Statement.{statement}
 use Rattle.account_heads.proofs.entry_at.Tie as tie
@@ -26,13 +27,18 @@ returns-2 c = let a = c .before .before .before .before .args in short (now (a .
 
 returns-3 : tie.Need-returns-3
 returns-3 c =
-    c .no-entry3 .ensures ∙ sym (entry-none _ (unmarked _ (sym (c .before .before .stands-at .ensures) ∙ not-true _ (c .before .if3 .taken))))
+    let a = c .before .before .before .before .before .before .before .args in
+    let u = drop (a .at) (now (a .book)) in
+    let stood : _ ≡ standsAt (now (a .book)) (a .at) mark = c .before .before .stands-at .ensures in
+    c .no-entry3 .ensures ∙ sym (entry-none u (unmarked u (sym stood ∙ not-true _ (c .before .if3 .taken))))
 
 returns-4 : tie.Need-returns-4
 returns-4 c =
+    let a = c .before .before .before .before .before .before .before .before .before .before .args in
+    let u = drop (a .at) (now (a .book)) in
     let is = c .before .before .before .head-at .ensures in
-    c .no-entry4 .ensures
-    ∙ sym (entry-none _ (outside _ (λ z. c .before .if4 .taken (c .before .before .stored-refusal .ensures ∙ ap (λ (e : Entry). first (limits e)) is ∙ z))))
+    let told : _ ≡ first (limits (c .before .before .before .head-at .result)) = c .before .before .stored-refusal .ensures in
+    c .no-entry4 .ensures ∙ sym (entry-none u (outside u (λ z. c .before .if4 .taken (told ∙ ap (λ (e : Entry). first (limits e)) is ∙ z))))
 
 returns-5 : tie.Need-returns-5
 returns-5 c =
@@ -47,9 +53,10 @@ returns-6 c =
     let is = c .before .before .before .before .head-at .ensures in
     let long = ap (λ (e : Entry). e .size) is in
     let u = drop (a .at) (now (a .book)) in
+    let stood : _ ≡ standsAt (now (a .book)) (a .at) mark = c .before .before .before .before .before .before .stands-at .ensures in
+    let told : _ ≡ first (limits (c .before .before .before .before .head-at .result)) = c .before .before .before .stored-refusal .ensures in
     is ∙ sym (entry-whole u
-    (is-whole u (sym (c .before .before .before .before .before .before .stands-at .ensures) ∙ not-false _ (c .before .before .before .before .before .if3 .left))
-    (ap (λ (e : Entry). first (limits e)) (sym is) ∙ sym (c .before .before .before .stored-refusal .ensures) ∙ c .before .before .if4 .left)
+    (is-whole u (sym stood ∙ not-false _ (c .before .before .before .before .before .if3 .left)) (ap (λ (e : Entry). first (limits e)) (sym is) ∙ sym told ∙ c .before .before .if4 .left)
     (omega (arith, long, length-drop (a .at) (now (a .book))))))
 
 pub entry-at-spec : {M : Type 1} → statement M

@@ -2,19 +2,23 @@
 use mathlib.Core.Path.{_≡_}
 use Prim.Native.Nat.{_+_}
 use native.Mathlib.Omega.{arith}
-use Rattle.accounts.specs.Accounts.{headOf}
+use denote.Ref.{now}
+use lib.ListN.{drop}
+use Rattle.accounts.specs.Accounts.{numberAt, headOf}
 use Rattle.account_heads.proofs.head_at.Statement.{statement}
 use Rattle.account_heads.proofs.head_at.Tie as tie
 
 returns : tie.Need-returns
 unfolding headOf
 returns c =
-    let number = c .before .before .before .before .before .number-at .ensures .0 in
-    let time = c .before .before .before .before .number-at2 .ensures .0 in
-    let rows = c .before .before .before .number-at3 .ensures .0 in
-    let columns = c .before .before .number-at4 .ensures .0 in
-    let salt = c .before .number-at5 .ensures .0 in
-    let key = c .number-at6 .ensures .0 in
+    let a = c .before .before .before .before .before .before .before .args in
+    let u = drop (a .at) (now (a .book)) in
+    let number : _ ≡ numberAt 2 4 u = c .before .before .before .before .before .number-at .ensures .0 in
+    let time : _ ≡ numberAt 6 1 u = c .before .before .before .before .number-at2 .ensures .0 in
+    let rows : _ ≡ numberAt 7 2 u = c .before .before .before .number-at3 .ensures .0 in
+    let columns : _ ≡ numberAt 9 2 u = c .before .before .number-at4 .ensures .0 in
+    let salt : _ ≡ numberAt 11 1 u = c .before .number-at5 .ensures .0 in
+    let key : _ ≡ numberAt 12 2 u = c .number-at6 .ensures .0 in
     λ i. record {
       size = 14 + salt i + key i;
       number = number i;

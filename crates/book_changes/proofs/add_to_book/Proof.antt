@@ -33,13 +33,13 @@ sub-if1 c =
 
 returns : tie.Need-returns
 returns c =
-    let start = c .before .before .before .before .before .before .before .before .before in
-    let a = start .args in
+    let begun = c .before .before .before .before .before .before .before .before .before in
+    let a = begun .args in
     let book = now (a .book) in
-    let g = passed-book (a .used) book (start .pre .1) in
+    let g = passed-book (a .used) book (begun .pre .1) in
     let new = account (a .number) (a .p) (now (a .salt)) (now (a .key)) in
     let kept = kept-length (a .number) (a .used) book (λ i. c .before .before .before .before .before .before .before .before .slice-known .given i .fits) g (c .before .before .before .before .place-of .ensures) (ap (λ (e : Entry). e .size) (c .before .before .account-at .ensures)) in
-    room-refused new (a .used) book (sym (start .pre .0)) refl g (omega (arith, kept, with-length new (accountsIn (a .used) book))) (c .no-place .ensures)
+    room-refused new (a .used) book (sym (begun .pre .0)) refl g (omega (arith, kept, with-length new (accountsIn (a .used) book))) (c .no-place .ensures)
 
 take-out-requires : tie.Need-take-out-requires
 take-out-requires c κs =

@@ -3,6 +3,7 @@ use mathlib.Core.List.{append-assoc}
 use native.Mathlib.Omega.{arith}
 use denote.Ref.{now}
 use lib.ListN.{length}
+use Rattle.text.specs.Text.{Appended}
 use Rattle.text.proofs.Appending.{_then_, reworded}
 use Rattle.accounts.specs.Accounts.{head, encode}
 use Rattle.accounts.proofs.Decoding.{length-head}
@@ -18,7 +19,9 @@ returns c =
     let a = start .before .before .before .before .before .args in
     let s = now (a .salt) in
     let k = now (a .key) in
-    reworded (start .append-head .ensures then salt .append .ensures then key .append2 .ensures)
+    let put-salt : Appended _ _ _ s _ = salt .append .ensures in
+    let put-key : Appended _ _ _ k _ = key .append2 .ensures in
+    reworded (start .append-head .ensures then put-salt then put-key)
     (append-assoc (head (a .number) (a .p) (length s) (length k)) s k)
 
 pub append-account-spec : {M : Type 1} → statement M

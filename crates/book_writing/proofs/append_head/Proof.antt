@@ -6,7 +6,8 @@ use native.Mathlib.Omega.{arith}
 use Rattle.little_endian.specs.Bytes.{leBytes}
 use Rattle.settings.specs.declared.StoredParameters.{StoredParameters}
 use Rattle.text.proofs.Appending.{_then_, reworded}
-use Rattle.accounts.specs.Accounts.{mark, head}
+use Rattle.text.specs.Text.{Appended}
+use Rattle.accounts.specs.Accounts.{mark as AC, head}
 use Rattle.book_writing.proofs.append_head.Statement.{statement}
 use Rattle.book_writing.proofs.append_head.Tie as tie
 
@@ -14,10 +15,10 @@ regroup : (m n t r c s k : List ℕ) → m ++ n ++ t ++ r ++ c ++ s ++ k ≡ m +
 regroup m n t r c s k = simp append-assoc
 
 regrouped : (number : ℕ) (p : StoredParameters) (salt key : ℕ)
-    → mark ++ leBytes 4 number ++ leBytes 1 (p .time) ++ leBytes 2 (p .rows) ++ leBytes 2 (p .columns) ++ leBytes 1 salt ++ leBytes 2 key ≡ head number p salt key
+    → AC ++ leBytes 4 number ++ leBytes 1 (p .time) ++ leBytes 2 (p .rows) ++ leBytes 2 (p .columns) ++ leBytes 1 salt ++ leBytes 2 key ≡ head number p salt key
 unfolding head
 regrouped number p salt key =
-    regroup mark (leBytes 4 number) (leBytes 1 (p .time)) (leBytes 2 (p .rows)) (leBytes 2 (p .columns)) (leBytes 1 salt) (leBytes 2 key)
+    regroup AC (leBytes 4 number) (leBytes 1 (p .time)) (leBytes 2 (p .rows)) (leBytes 2 (p .columns)) (leBytes 1 salt) (leBytes 2 key)
 
 pub append-head-spec : {M : Type 1} → statement M
 append-head-spec =
@@ -63,6 +64,12 @@ append-head-spec =
     let number = time .before .before .before .before in
     let mark = number .before .before .before .before in
     let a = mark .before .before .before .before .args in
-    reworded
-    (mark .append .ensures then number .append-number .ensures .0 then time .append-number2 .ensures .0 then rows .append-number3 .ensures .0 then columns .append-number4 .ensures .0 then salt .append-number5 .ensures .0 then key .append-number6 .ensures .0)
+    let put-mark : Appended _ _ _ AC _ = mark .append .ensures in
+    let put-number : Appended _ _ _ (leBytes 4 (a .number)) _ = number .append-number .ensures .0 in
+    let put-time : Appended _ _ _ (leBytes 1 (a .p .time)) _ = time .append-number2 .ensures .0 in
+    let put-rows : Appended _ _ _ (leBytes 2 (a .p .rows)) _ = rows .append-number3 .ensures .0 in
+    let put-columns : Appended _ _ _ (leBytes 2 (a .p .columns)) _ = columns .append-number4 .ensures .0 in
+    let put-salt : Appended _ _ _ (leBytes 1 (a .salt)) _ = salt .append-number5 .ensures .0 in
+    let put-key : Appended _ _ _ (leBytes 2 (a .key)) _ = key .append-number6 .ensures .0 in
+    reworded (put-mark then put-number then put-time then put-rows then put-columns then put-salt then put-key)
     (regrouped (a .number) (a .p) (a .salt) (a .key))))
