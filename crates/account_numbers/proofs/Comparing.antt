@@ -10,10 +10,10 @@ use lib.Dec.{eqb}
 use lib.ListN.{length, getD, take, drop, set, length-set, length-drop, drop-of-length-le}
 use lib.Seq.{take-suc, take-all, drop-cons, take-suc-set}
 use borrow.Author.Tests.{eqb-true, eqb-false, eq-eqb, ne-eqb}
-use Rattle.accounts.specs.Accounts.{Account, accounts, accountOf, entryOf}
+use Rattle.accounts.specs.Accounts.{Account, accounts, entryOf}
 use Rattle.accounts.specs.Book.{has, distinct, Running}
 use Rattle.accounts.specs.declared.Entry.{Entry}
-use Rattle.accounts.proofs.Walking.{running-none, running-more, running-moves, running-accounts, running-number, running-end}
+use Rattle.accounts.proofs.Walking.{running-more, running-moves, running-accounts, running-number, running-end}
 use Rattle.account_numbers.specs.Numbers.{numbersOf, numbersFrom, member, differ, meet, Collected}
 use Rattle.account_numbers.specs.declared.Block.{Block}
 

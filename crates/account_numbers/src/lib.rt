@@ -3,7 +3,7 @@
 use account_reader::account_at;
 use account_reader::place_after;
 ghost use mathlib.Core.Path.{_≡_};
-ghost use mathlib.Core.Bool.{true, not};
+ghost use mathlib.Core.Bool.{true};
 ghost use Prim.Native.Nat.{_<_};
 ghost use lib.ListN.{length};
 ghost use Rattle.accounts.specs.Accounts.{accounts};

@@ -6,7 +6,7 @@ use native.Mathlib.Omega.{arith}
 use mathlib.Core.Bool.{Bool, true, false, cond, not, _&&_, _||_}
 use mathlib.Core.List.{List, [], _∷_, _++_}
 use lib.Dec.{eqb, leb}
-use lib.ListN.{length, take, drop, length-append, length-drop, length-take}
+use lib.ListN.{length, take, drop, length-drop, length-take}
 use lib.Seq.{take-take, length-take-le}
 use Rattle.lists.specs.Every.{sameBytes}
 use Rattle.lists.proofs.Grown.{All}
@@ -16,13 +16,12 @@ use Rattle.refusals.specs.Checks.{Check, first, passwordCheck, matrixCheck, boo
 use Rattle.settings.specs.Settings.{usual}
 use Rattle.settings.specs.declared.StoredParameters.{StoredParameters}
 use Rattle.accounts.specs.Accounts.{Account, mark, headBytes, encode, encodeAll, numberAt, headOf, limits, isWhole, accountOf, accounts, Good}
-use Rattle.accounts.specs.Book.{has, distinct, found, without, with, isRun, isBook}
+use Rattle.accounts.specs.Book.{has, distinct, found, without, with, isBook}
 use Rattle.accounts.specs.Contracts.{accountsIn, findChecks, findNumber, addChecks, addNumber, checkChecks, checkNumber}
 use Rattle.accounts.specs.Shown.{headsAfter, heads}
 use Rattle.accounts.specs.declared.Entry.{Entry}
 use Rattle.accounts.proofs.Decoding.{length-encode, length-all-cons, size-is, whole, accounts-whole, accounts-none, accounts-end}
 use Rattle.accounts.proofs.Inverse.{entry, accounts-read}
-use Rattle.accounts.proofs.Changing.{encode-append}
 
 -- ---- accounts that differ in the bytes of salts and keys alone
 

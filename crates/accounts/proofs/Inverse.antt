@@ -1,26 +1,24 @@
 -- Reading and writing are inverse: the accounts of a run are written as its bytes, and what is written of good accounts is read as them.
 -- Assumes nothing.
 use mathlib.Core.Path.{_≡_, refl, sym, ap, ap₂, subst, _∙_}
-use Prim.Native.Nat.{ℕ, zero, suc, _+_, _*_, _^_, _≤_, _<_}
+use Prim.Native.Nat.{ℕ, zero, suc, _+_, _≤_}
 use native.Mathlib.Omega.{arith}
 use mathlib.Core.Bool.{Bool, true, false}
 use mathlib.Core.List.{List, [], _∷_, _++_, append-assoc}
-use lib.ListN.{length, getD, take, drop, length-append, length-drop, take-append-drop}
-use lib.Seq.{length-take-le, take-add, take-all, drop-drop, take-at, drop-at}
-use Rattle.lists.specs.Every.{sameBytes}
+use lib.ListN.{length, take, drop, length-append, length-drop, take-append-drop}
+use lib.Seq.{length-take-le, take-add, drop-drop, take-at, drop-at}
 use Rattle.lists.proofs.Grown.{All}
 use Rattle.lists.proofs.EveryLaws.{same-of-equal, equal-of-same}
 use Rattle.little_endian.specs.Bytes.{leValue, leBytes}
-use Rattle.little_endian.proofs.ByteLaws.{AllBytes, bytes-value, value-bytes, value-most, take-bytes, drop-bytes, length-bytes}
+use Rattle.little_endian.proofs.ByteLaws.{AllBytes, bytes-value, value-bytes, value-most, take-bytes, drop-bytes}
 use Rattle.refusals.specs.Checks.{first, storedChecks}
 use Rattle.refusals.proofs.Accepted.{accepted}
-use Rattle.settings.specs.declared.StoredParameters.{StoredParameters}
 use Rattle.text.specs.Text.{standsAt}
 use Rattle.accounts.specs.Accounts.{Account, mark, headBytes, head, encode, encodeAll, numberAt, headOf, limits, isWhole, accountOf, accounts, entryOf, Good}
 use Rattle.accounts.specs.Book.{Run}
 use Rattle.accounts.specs.declared.Entry.{Entry}
-use Rattle.accounts.proofs.Decoding.{length-head, length-encode, encode-longer, length-all-cons, Whole, whole, is-whole, size-is, front-size, accounts-whole, accounts-none, accounts-end, entry-whole}
-use Rattle.accounts.proofs.Walking.{run-whole, none-length, step-moves, step-inside, step-accounts, run-behind}
+use Rattle.accounts.proofs.Decoding.{length-head, length-encode, length-all-cons, whole, is-whole, size-is, front-size, accounts-whole, accounts-none, accounts-end, entry-whole}
+use Rattle.accounts.proofs.Walking.{run-whole}
 
 -- ---- from bytes to accounts and back
 

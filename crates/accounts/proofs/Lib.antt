@@ -7,3 +7,4 @@ pub mod Refusing
 pub mod Rewriting
 pub mod Independence
 pub mod Theorems
+pub mod Cases

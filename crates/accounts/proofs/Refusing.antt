@@ -1,19 +1,19 @@
 -- Which refusal the operations on a book give, check by check, and what is known where a check is passed. Assumes nothing.
 use mathlib.Core.Path.{_≡_, refl, sym, ap, ap₂, _∙_}
-use Prim.Native.Nat.{ℕ, _+_, _≤_, _<_}
+use Prim.Native.Nat.{ℕ, _≤_, _<_}
 use native.Mathlib.Omega.{arith}
 use mathlib.Core.Bool.{Bool, true, false, not, _&&_, _||_, true≢false}
-use mathlib.Core.List.{List, [], _∷_, _++_}
-use lib.Dec.{eqb, ltb}
+use mathlib.Core.List.{List, [], _∷_}
+use lib.Dec.{ltb}
 use lib.ListN.{length, take}
 use lib.Seq.{length-take-le}
-use borrow.Author.Tests.{ltb-false, lt-ltb, le-ltb, not-true, not-false, eq-eqb}
-use Rattle.refusals.specs.Checks.{Check, flag, first, refuses, answered, bookCheck, accountCheck, storedChecks}
-use Rattle.refusals.proofs.Accepted.{first-refused, first-passed, first-none}
+use borrow.Author.Tests.{ltb-false, lt-ltb, le-ltb, not-true, not-false}
+use Rattle.refusals.specs.Checks.{flag, first, refuses, accountCheck}
+use Rattle.refusals.proofs.Accepted.{first-refused, first-passed}
 use Rattle.refusals.proofs.Answered.{answered-yes, answered-no}
 use Rattle.accounts.specs.Accounts.{Account, encodeAll, accounts}
 use Rattle.accounts.specs.Book.{has, distinct, placeOf, isRun, isBook}
-use Rattle.accounts.specs.Contracts.{accountsIn, goodBook, placed, noPlace, bookAnswer, findChecks, findNumber, findAnswer}
+use Rattle.accounts.specs.Contracts.{accountsIn, goodBook, placed, noPlace, findChecks, findNumber, findAnswer}
 use Rattle.accounts.specs.declared.BookAnswer.{BookAnswer}
 use Rattle.accounts.proofs.Walking.{run}
 use Rattle.accounts.proofs.Changing.{neither, book-run, found-place, missing-place}

@@ -1,5 +1,5 @@
 -- What taking an account out and putting one last leave in the slice, and what the two operations answer. Assumes nothing.
-use mathlib.Core.Path.{_≡_, refl, sym, ap, ap₂, subst, _∙_}
+use mathlib.Core.Path.{_≡_, refl, sym, ap, ap₂, _∙_}
 use Prim.Native.Nat.{ℕ, _+_, _-_, _≤_, _<_}
 use native.Mathlib.Omega.{arith}
 use mathlib.Core.Bool.{Bool, true, false, cond, _||_}
@@ -11,17 +11,17 @@ use borrow.Author.Tests.{lt-ltb, le-ltb}
 use Rattle.lists.specs.Zip.{putInto, zipAt}
 use Rattle.lists.proofs.Putting.{put-from, put-over, drop-replicate}
 use Rattle.little_endian.proofs.ByteLaws.{AllBytes, take-bytes}
-use Rattle.refusals.specs.Checks.{Check, flag, first, refuses, answered, accountCheck, bookRoomCheck, storedChecks}
-use Rattle.refusals.proofs.Accepted.{accepted, first-refused, first-passed, first-none, more-refuse, more-pass}
+use Rattle.refusals.specs.Checks.{Check, flag, first, refuses, bookRoomCheck, storedChecks}
+use Rattle.refusals.proofs.Accepted.{accepted, first-refused, first-passed, more-refuse, more-pass}
 use Rattle.refusals.proofs.Answered.{answered-yes, answered-no, answered-is, answered-number}
 use Rattle.accounts.specs.Accounts.{Account, headBytes, encode, encodeAll, accounts, entryOf}
 use Rattle.accounts.specs.Book.{has, placeOf, without, with, isBook, rewritten}
-use Rattle.accounts.specs.Contracts.{accountsIn, goodBook, placed, noPlace, bookAnswer, findChecks, findNumber, findAnswer, Changed, Removed, addChecks, addNumber, Added}
+use Rattle.accounts.specs.Contracts.{accountsIn, goodBook, placed, noPlace, findChecks, findNumber, findAnswer, Removed, addChecks, addNumber, Added}
 use Rattle.accounts.specs.declared.BookAnswer.{BookAnswer}
 use Rattle.accounts.proofs.Decoding.{length-encode, entry-fits}
 use Rattle.accounts.proofs.Walking.{run}
 use Rattle.accounts.proofs.Changing.{encode-append, book-run, place-most, others-bytes, others-length}
-use Rattle.accounts.proofs.Refusing.{GoodBook, good-book}
+use Rattle.accounts.proofs.Refusing.{GoodBook}
 
 -- ---- what a found account's answer tells
 

@@ -1,21 +1,21 @@
 -- The book in other words: its bytes and its accounts determine each other, and what one call leaves is the book that the next one finds.
 -- Assumes nothing.
-use mathlib.Core.Path.{_≡_, refl, sym, ap, ap₂, subst, _∙_}
+use mathlib.Core.Path.{_≡_, refl, sym, ap, ap₂, _∙_}
 use mathlib.Core.Logic.{_↔_}
-use Prim.Native.Nat.{ℕ, _+_, _-_, _≤_, _^_, _<_}
+use Prim.Native.Nat.{ℕ, _+_, _-_, _≤_}
 use native.Mathlib.Omega.{arith}
 use mathlib.Core.Bool.{Bool, true, false, cond, not, _&&_, _||_, and-eq-true-iff}
 use mathlib.Core.List.{List, [], _∷_, _++_}
 use lib.Dec.{eqb}
 use lib.ListN.{length, take, replicate, length-append, length-replicate}
-use lib.Seq.{take-at, take-append-le, take-take, length-take-le}
+use lib.Seq.{take-at, take-take}
 use borrow.Author.Tests.{eq-eqb, ne-eqb, eqb-false, not-true}
 use Rattle.lists.specs.Zip.{putInto}
 use Rattle.lists.proofs.Grown.{All}
 use Rattle.lists.proofs.ZipLaws.{put-front}
 use Rattle.little_endian.proofs.ByteLaws.{AllBytes}
-use Rattle.accounts.specs.Accounts.{Account, encode, encodeAll, accounts, Good}
-use Rattle.accounts.specs.Book.{has, distinct, without, with, isRun, isBook, rewritten}
+use Rattle.accounts.specs.Accounts.{Account, encodeAll, accounts, Good}
+use Rattle.accounts.specs.Book.{has, distinct, without, with, isBook, rewritten}
 use Rattle.accounts.proofs.Walking.{run}
 use Rattle.accounts.proofs.Inverse.{accounts-written, accounts-read, accounts-good}
 use Rattle.accounts.proofs.Changing.{neither, has-append, book-run, book-distinct}

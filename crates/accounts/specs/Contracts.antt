@@ -1,7 +1,6 @@
 -- What the operations on a book promise: the answer, and what they leave in the lent slice, which is `book` before the call and `book′`
 -- after it.
 use mathlib.Core.Path.{_≡_}
-use mathlib.Core.Bool.{Bool}
 use Prim.Native.Nat.{ℕ}
 use mathlib.Core.List.{List, [], _∷_, _++_}
 use lib.ListN.{length, take}

@@ -9,10 +9,10 @@ use lib.ListN.{length, take, drop, length-drop}
 use lib.Seq.{drop-drop}
 use Rattle.settings.specs.Settings.{usual}
 use Rattle.settings.specs.declared.Parameters.{Parameters}
-use Rattle.refusals.specs.Checks.{Check, first, refuses, between, passwordCheck, rotationCheck, matrixCheck, lengthChecks, storedChecks, costChecks, plainChecks}
+use Rattle.refusals.specs.Checks.{Check, first, refuses, between, passwordCheck, rotationCheck, matrixCheck, storedChecks, costChecks, plainChecks}
 use Rattle.refusals.proofs.Accepted.{accepted, accepts, kept, first-refused, first-passed, more-refuse, more-pass}
 use Rattle.input.specs.Input.{input, lengths}
-use Rattle.derivation.specs.Answers.{flag, noCosts, answered}
+use Rattle.derivation.specs.Answers.{noCosts}
 use Rattle.derivation.specs.Contracts.{plainNumber, Compared}
 use Rattle.derivation.specs.declared.Costs.{Costs}
 use Rattle.derivation.proofs.Answering.{answered-no, cost-no}

@@ -1,17 +1,14 @@
 -- The steps of the loops that look for the end of a text and compare a mark, and what follows from a mark that stands. Assumes nothing.
-use mathlib.Core.Path.{_≡_, refl, sym, ap, ap₂, _∙_}
+use mathlib.Core.Path.{_≡_, refl, sym, ap, _∙_}
 use mathlib.Core.Bool.{Bool, true, false, cond, _&&_, false≢true}
 use Prim.Native.Nat.{ℕ, suc, _+_, _-_, _≤_, _<_}
-use native.Mathlib.Nat.{add-zero, add-suc}
 use native.Mathlib.Numerals.{add-one}
 use native.Mathlib.Omega.{arith}
 use mathlib.Core.List.{List, [], _∷_}
 use lib.Dec.{eqb}
-use lib.ListN.{length, getD, take, drop, drop-of-length-le, length-take, length-drop}
+use lib.ListN.{length, getD, drop, drop-of-length-le}
 use lib.Seq.{drop-cons}
 use borrow.Author.Tests.{eq-eqb, ne-eqb}
-use Rattle.lists.specs.Every.{sameBytes}
-use Rattle.lists.proofs.EveryLaws.{equal-of-same}
 use Rattle.text.specs.Text.{standsAt}
 use Rattle.text.proofs.Standing.{stands-fits}
 use Rattle.line_form.specs.Line.{startMark, rowsMark, columnsMark, textMark, until, endAt, timeEnd, rowsEnd, columnsEnd, isMarked}

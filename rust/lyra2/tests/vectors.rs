@@ -154,7 +154,7 @@ fn is_wanted(case: &Case) -> bool {
         | Question::Choose { .. } => true,
         // The walk program has a test of its own.
         Question::WalkProgram { .. } => false,
-        // `Safe` keeps no books yet; derivation-link's tests put these lines to the library.
+        // The lines about books are those of vectors_books.rs.
         Question::BookFind { .. }
         | Question::BookAdd { .. }
         | Question::BookRemove { .. }

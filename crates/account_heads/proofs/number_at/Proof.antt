@@ -1,5 +1,5 @@
 -- `number_at` meets its contract: a part of a part, and the bound of so many bytes. Assumes nothing.
-use mathlib.Core.Path.{_≡_, sym, ap, subst, _∙_}
+use mathlib.Core.Path.{sym, ap, subst, _∙_}
 use mathlib.Core.List.{List}
 use Prim.Native.Nat.{ℕ, _+_, _*_, _^_, _<_}
 use native.Mathlib.Omega.{arith}
@@ -8,7 +8,6 @@ use lib.Seq.{drop-drop}
 use Rattle.little_endian.specs.Bytes.{leValue}
 use Rattle.little_endian.proofs.ByteLaws.{value-most, drop-bytes}
 use denote.Ref.{now}
-use Rattle.accounts.specs.Accounts.{numberAt}
 use Rattle.account_heads.proofs.number_at.Statement.{statement}
 use Rattle.account_heads.proofs.number_at.Tie as tie
 

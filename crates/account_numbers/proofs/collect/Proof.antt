@@ -2,7 +2,6 @@
 use Prim.Native.Nat.{_-_}
 use native.Mathlib.Omega.{arith}
 use lib.ListN.{length}
-use Rattle.accounts.proofs.Walking.{running-moves}
 use Rattle.account_numbers.proofs.Comparing.{Collecting, collecting-none, collecting-more, collecting-end}
 use Rattle.account_numbers.proofs.collect.Statement.{statement}
 use Rattle.account_numbers.proofs.collect.Tie as tie
