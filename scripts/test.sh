@@ -47,7 +47,8 @@ has_passed() { # SCRIPT
     [ "$(cat "$work/$1.status")" = 0 ]
 }
 
-# ---- the proofs
+# ---- the proofs, two for each processor at a time: rt waits for the slowest of those that it has begun
+export RT_JOBS=${RT_JOBS:-$((2 * $(nproc)))}
 run "$log" rt ci
 count_proofs $? "$log" "$crates"
 step "the layout of the Rattle and antt files" rt fmt --check
