@@ -10,6 +10,7 @@ use lib.Seq.{take-all, take-at, drop-at, length-take-le, drop-drop}
 use borrow.Author.Tests.{eqb-true, eq-eqb, not-true}
 use Rattle.lists.proofs.Grown.{All}
 use Rattle.little_endian.proofs.ByteLaws.{AllBytes}
+use Rattle.refusals.proofs.Accepted.{neither}
 use Rattle.accounts.specs.Accounts.{Account, encode, encodeAll, isWhole, accountOf, accounts, entryOf, Good}
 use Rattle.accounts.specs.Book.{has, distinct, found, placeOf, without, isRun, isBook}
 use Rattle.accounts.specs.declared.Entry.{Entry}
@@ -32,10 +33,6 @@ has-append n (a ∷ l) m = ap (λ (b : Bool). eqb (a .number) n || b) (has-appen
     or-assoc : (a b c : Bool) → (a || (b || c)) ≡ (a || b || c)
     or-assoc true b c = refl
     or-assoc false b c = refl
-
-pub neither : (s t : Bool) → (s || t) ≡ false → (s ≡ false) × (t ≡ false)
-neither true t h = absurd (false≢true (sym h))
-neither false t h = (refl, h)
 
 -- where none has the number, none goes
 pub without-none : (n : ℕ) (l : List Account) → has n l ≡ false → without n l ≡ l

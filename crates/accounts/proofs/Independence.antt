@@ -15,7 +15,7 @@ use Rattle.little_endian.specs.Bytes.{leValue}
 use Rattle.refusals.specs.Checks.{Check, first, passwordCheck, matrixCheck, bookCheck, accountCheck, bookRoomCheck, storedChecks}
 use Rattle.settings.specs.Settings.{usual}
 use Rattle.settings.specs.declared.StoredParameters.{StoredParameters}
-use Rattle.accounts.specs.Accounts.{Account, mark, headBytes, encode, encodeAll, numberAt, headOf, limits, isWhole, accountOf, accounts, Good}
+use Rattle.accounts.specs.Accounts.{Account, mark, headBytes, encode, encodeAll, numberAt, entryBy, headOf, limits, isWhole, accountOf, accounts, Good}
 use Rattle.accounts.specs.Book.{has, distinct, found, without, with, isBook}
 use Rattle.accounts.specs.Contracts.{accountsIn, findChecks, findNumber, addChecks, addNumber, checkChecks, checkNumber}
 use Rattle.accounts.specs.Shown.{headsAfter, heads}
@@ -179,13 +179,7 @@ head-shown u =
     let columns = in-head 9 2 u (omega arith) in
     let salt = in-head 11 1 u (omega arith) in
     let key = in-head 12 2 u (omega arith) in
-    λ i. record {
-      size = headBytes + salt i + key i;
-      number = number i;
-      parameters = record { time = time i; rows = rows i; columns = columns i };
-      salt = salt i;
-      key = key i;
-    }
+    λ i. entryBy (number i) (record { time = time i; rows = rows i; columns = columns i }) (salt i) (key i)
 
 module _ (u v : List ℕ) (e : take headBytes u ≡ take headBytes v) where
   same-head : headOf u ≡ headOf v
@@ -206,13 +200,7 @@ entry-front u w =
     let k = headOf u .key in
     let salt : length (take s (drop headBytes u)) ≡ s = length-take-le s (drop headBytes u) (omega (arith, length-drop headBytes u, q .fits)) in
     let key : length (take k (drop (headBytes + s) u)) ≡ k = length-take-le k (drop (headBytes + s) u) (omega (arith, length-drop (headBytes + s) u, q .fits)) in
-    λ i. record {
-      size = headBytes + salt i + key i;
-      number = headOf u .number;
-      parameters = headOf u .parameters;
-      salt = salt i;
-      key = key i;
-    }
+    λ i. entryBy (headOf u .number) (headOf u .parameters) (salt i) (key i)
 
 in-words : {l l′ m m′ : List Account} → l ≡ l′ → m ≡ m′ → Alike l′ m′ → Alike l m
 in-words {l} {l′} {m} {m′} e f h = subst (λ (k : List Account). Alike k m) (sym e) (subst (λ (k : List Account). Alike l′ k) (sym f) h)

@@ -14,7 +14,7 @@ use Rattle.little_endian.proofs.ByteLaws.{AllBytes, bytes-value, value-bytes, v
 use Rattle.refusals.specs.Checks.{first, storedChecks}
 use Rattle.refusals.proofs.Accepted.{accepted}
 use Rattle.text.specs.Text.{standsAt}
-use Rattle.accounts.specs.Accounts.{Account, mark, headBytes, head, encode, encodeAll, numberAt, headOf, limits, isWhole, accountOf, accounts, entryOf, Good}
+use Rattle.accounts.specs.Accounts.{Account, mark, headBytes, head, encode, encodeAll, numberAt, entryBy, headOf, limits, isWhole, accountOf, accounts, entryOf, Good}
 use Rattle.accounts.specs.Book.{Run}
 use Rattle.accounts.specs.declared.Entry.{Entry}
 use Rattle.accounts.proofs.Decoding.{length-head, length-encode, length-all-cons, whole, is-whole, size-is, front-size, accounts-whole, accounts-none, accounts-end, entry-whole}
@@ -101,14 +101,7 @@ accounts-written u h r = written (length u) u (omega arith) h r
 
 -- the numbers of an account as its head says them
 abbrev pub entry : Account → Entry
-entry a =
-    record {
-      size = headBytes + length (a .salt) + length (a .key);
-      number = a .number;
-      parameters = a .parameters;
-      salt = length (a .salt);
-      key = length (a .key);
-    }
+entry a = entryBy (a .number) (a .parameters) (length (a .salt)) (length (a .key))
 
 module _ (a : Account) (g : Good a) (rest : List ℕ) where
   abbrev u : List ℕ
@@ -125,13 +118,7 @@ module _ (a : Account) (g : Good a) (rest : List ℕ) where
       let columns : leValue (leBytes 2 (p .columns)) ≡ p .columns = value-bytes 2 (p .columns) (omega arith) in
       let salt : leValue (leBytes 1 (length (a .salt))) ≡ length (a .salt) = value-bytes 1 (length (a .salt)) (omega arith) in
       let key : leValue (leBytes 2 (length (a .key))) ≡ length (a .key) = value-bytes 2 (length (a .key)) (omega arith) in
-      λ i. record {
-        size = headBytes + salt i + key i;
-        number = number i;
-        parameters = record { time = time i; rows = rows i; columns = columns i };
-        salt = salt i;
-        key = key i;
-      }
+      λ i. entryBy (number i) (record { time = time i; rows = rows i; columns = columns i }) (salt i) (key i)
 
   pub whole-read : isWhole u ≡ true
   unfolding encode head

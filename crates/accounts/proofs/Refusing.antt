@@ -9,14 +9,14 @@ use lib.ListN.{length, take}
 use lib.Seq.{length-take-le}
 use borrow.Author.Tests.{ltb-false, lt-ltb, le-ltb, not-true, not-false}
 use Rattle.refusals.specs.Checks.{flag, first, refuses, accountCheck}
-use Rattle.refusals.proofs.Accepted.{first-refused, first-passed}
+use Rattle.refusals.proofs.Accepted.{neither, first-refused, first-passed}
 use Rattle.refusals.proofs.Answered.{answered-yes, answered-no}
 use Rattle.accounts.specs.Accounts.{Account, encodeAll, accounts}
 use Rattle.accounts.specs.Book.{has, distinct, placeOf, isRun, isBook}
 use Rattle.accounts.specs.Contracts.{accountsIn, goodBook, placed, noPlace, findChecks, findNumber, findAnswer}
 use Rattle.accounts.specs.declared.BookAnswer.{BookAnswer}
 use Rattle.accounts.proofs.Walking.{run}
-use Rattle.accounts.proofs.Changing.{neither, book-run, found-place, missing-place}
+use Rattle.accounts.proofs.Changing.{book-run, found-place, missing-place}
 
 -- what is known of a book that is not refused
 pub record GoodBook (used : ℕ) (book : List ℕ) : Type 0 where

@@ -14,11 +14,12 @@ use Rattle.lists.specs.Zip.{putInto}
 use Rattle.lists.proofs.Grown.{All}
 use Rattle.lists.proofs.ZipLaws.{put-front}
 use Rattle.little_endian.proofs.ByteLaws.{AllBytes}
+use Rattle.refusals.proofs.Accepted.{neither}
 use Rattle.accounts.specs.Accounts.{Account, encodeAll, accounts, Good}
 use Rattle.accounts.specs.Book.{has, distinct, without, with, isBook, rewritten}
 use Rattle.accounts.proofs.Walking.{run}
 use Rattle.accounts.proofs.Inverse.{accounts-written, accounts-read, accounts-good}
-use Rattle.accounts.proofs.Changing.{neither, has-append, book-run, book-distinct}
+use Rattle.accounts.proofs.Changing.{has-append, book-run, book-distinct}
 
 -- ---- reading and writing are inverse
 

@@ -45,16 +45,15 @@ encodeAll (a ∷ l) = encode a ++ encodeAll l
 abbrev pub numberAt : ℕ → ℕ → List ℕ → ℕ
 numberAt place width bytes = leValue (take width (drop place bytes))
 
--- what a head says, and the size of its account
+-- an account's numbers, and the size that they make
+abbrev pub entryBy : ℕ → StoredParameters → ℕ → ℕ → Entry
+entryBy number p salt key = record { size = headBytes + salt + key; number = number; parameters = p; salt = salt; key = key }
+
+-- what a head says
 unfoldable pub headOf : List ℕ → Entry
 headOf bytes =
-    record {
-      size = headBytes + numberAt 11 1 bytes + numberAt 12 2 bytes;
-      number = numberAt 2 4 bytes;
-      parameters = record { time = numberAt 6 1 bytes; rows = numberAt 7 2 bytes; columns = numberAt 9 2 bytes };
-      salt = numberAt 11 1 bytes;
-      key = numberAt 12 2 bytes;
-    }
+    let p : StoredParameters = record { time = numberAt 6 1 bytes; rows = numberAt 7 2 bytes; columns = numberAt 9 2 bytes } in
+    entryBy (numberAt 2 4 bytes) p (numberAt 11 1 bytes) (numberAt 12 2 bytes)
 
 -- the limits of what is kept of an operator
 abbrev pub limits : Entry → List Check

@@ -19,7 +19,7 @@ abbrev pub Numbered : List Check → Type 0
 Numbered [] = Unit {0}
 Numbered (c ∷ cs) = (0 < c .number) × Numbered cs
 
-neither : (t u : Bool) → (t || u) ≡ false → (t ≡ false) × (u ≡ false)
+pub neither : (t u : Bool) → (t || u) ≡ false → (t ≡ false) × (u ≡ false)
 neither true u e = absurd (true≢false e)
 neither false u e = (refl, e)
 

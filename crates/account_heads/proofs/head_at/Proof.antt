@@ -1,10 +1,9 @@
 -- `head_at` meets its contract: field by field. Assumes nothing.
 use mathlib.Core.Path.{_≡_}
-use Prim.Native.Nat.{_+_}
 use native.Mathlib.Omega.{arith}
 use denote.Ref.{now}
 use lib.ListN.{drop}
-use Rattle.accounts.specs.Accounts.{numberAt, headOf}
+use Rattle.accounts.specs.Accounts.{numberAt, entryBy, headOf}
 use Rattle.account_heads.proofs.head_at.Statement.{statement}
 use Rattle.account_heads.proofs.head_at.Tie as tie
 
@@ -19,13 +18,7 @@ returns c =
     let columns : _ ≡ numberAt 9 2 u = c .before .before .number-at4 .ensures .0 in
     let salt : _ ≡ numberAt 11 1 u = c .before .number-at5 .ensures .0 in
     let key : _ ≡ numberAt 12 2 u = c .number-at6 .ensures .0 in
-    λ i. record {
-      size = 14 + salt i + key i;
-      number = number i;
-      parameters = record { time = time i; rows = rows i; columns = columns i };
-      salt = salt i;
-      key = key i;
-    }
+    λ i. entryBy (number i) (record { time = time i; rows = rows i; columns = columns i }) (salt i) (key i)
 
 pub head-at-spec : {M : Type 1} → statement M
 head-at-spec =
