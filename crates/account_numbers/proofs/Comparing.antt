@@ -4,7 +4,7 @@ use Prim.Native.Nat.{ℕ, suc, _+_, _-_, _≤_, _<_}
 use native.Mathlib.Numerals.{add-one}
 use native.Mathlib.Omega.{arith}
 use native.Mathlib.Decide.{ℕ-discrete}
-use mathlib.Core.Bool.{Bool, true, false, not, _&&_, _||_}
+use mathlib.Core.Bool.{Bool, true, false, not, _&&_, _||_, or-true, or-false, or-assoc}
 use mathlib.Core.List.{List, [], _∷_, _++_, append-assoc}
 use lib.Dec.{eqb}
 use lib.ListN.{length, getD, take, drop, set, length-set, length-drop, drop-of-length-le}
@@ -19,22 +19,10 @@ use Rattle.account_numbers.specs.declared.Block.{Block}
 
 -- ---- a number among others
 
-or-assoc : (a b c : Bool) → (a || (b || c)) ≡ (a || b || c)
-or-assoc true b c = refl
-or-assoc false b c = refl
-
-or-false : (a : Bool) → (a || false) ≡ a
-or-false true = refl
-or-false false = refl
-
-or-true : (a : Bool) → (a || true) ≡ true
-or-true true = refl
-or-true false = refl
-
 member-append : (x : ℕ) (l m : List ℕ) → member x (l ++ m) ≡ (member x l || member x m)
 unfolding member
 member-append x [] m = refl
-member-append x (y ∷ l) m = ap (λ (b : Bool). eqb y x || b) (member-append x l m) ∙ or-assoc (eqb y x) (member x l) (member x m)
+member-append x (y ∷ l) m = ap (λ (b : Bool). eqb y x || b) (member-append x l m) ∙ sym (or-assoc (eqb y x) (member x l) (member x m))
 
 -- the first i are looked at
 pub record Looked (x : ℕ) (l : List ℕ) (found : Bool) (i : ℕ) : Type 0 where

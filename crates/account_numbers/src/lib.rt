@@ -88,7 +88,7 @@ pub fn are_distinct(book: &[u8]) -> bool
     ensures { λ r. ⌜ r ≡ distinct (accounts (now (book .entry))) ⌝ }
 {
     // Whatever the block holds before, but no 0: of a value that it knows the compiler would make a call of memset.
-    let mut block: [u32; 128] = [account_at(book, 0).number; BLOCK];
+    let mut block = [account_at(book, 0).number; BLOCK];
     let mut at = 0;
     while at < book.len() {
         let b = collect(book, at, &mut block);

@@ -2,7 +2,7 @@
 use mathlib.Core.Path.{_≡_, refl, sym, ap, ap₂, subst, _∙_}
 use Prim.Native.Nat.{ℕ, _+_, _-_, _≤_, _<_}
 use native.Mathlib.Omega.{arith}
-use mathlib.Core.Bool.{Bool, true, false, cond, not, _||_, and-eq-true-iff, false≢true}
+use mathlib.Core.Bool.{Bool, true, false, cond, not, _||_, and-eq-true-iff, false≢true, or-assoc}
 use mathlib.Core.List.{List, [], _∷_, _++_, append-assoc, append-nil}
 use lib.Dec.{eqb}
 use lib.ListN.{length, take, drop, length-append, length-drop, drop-of-length-le}
@@ -28,11 +28,7 @@ encode-append (a ∷ l) m = ap (λ (b : List ℕ). encode a ++ b) (encode-append
 pub has-append : (n : ℕ) (l m : List Account) → has n (l ++ m) ≡ (has n l || has n m)
 unfolding has
 has-append n [] m = refl
-has-append n (a ∷ l) m = ap (λ (b : Bool). eqb (a .number) n || b) (has-append n l m) ∙ or-assoc (eqb (a .number) n) (has n l) (has n m)
-  where
-    or-assoc : (a b c : Bool) → (a || (b || c)) ≡ (a || b || c)
-    or-assoc true b c = refl
-    or-assoc false b c = refl
+has-append n (a ∷ l) m = ap (λ (b : Bool). eqb (a .number) n || b) (has-append n l m) ∙ sym (or-assoc (eqb (a .number) n) (has n l) (has n m))
 
 -- where none has the number, none goes
 pub without-none : (n : ℕ) (l : List Account) → has n l ≡ false → without n l ≡ l

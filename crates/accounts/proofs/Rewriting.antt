@@ -11,8 +11,8 @@ use borrow.Author.Tests.{lt-ltb, le-ltb}
 use Rattle.lists.specs.Zip.{putInto, zipAt}
 use Rattle.lists.proofs.Putting.{put-from, put-over, drop-replicate}
 use Rattle.little_endian.proofs.ByteLaws.{AllBytes, take-bytes}
-use Rattle.refusals.specs.Checks.{Check, flag, first, refuses, bookRoomCheck, storedChecks}
-use Rattle.refusals.proofs.Accepted.{accepted, first-refused, first-passed, more-refuse, more-pass}
+use Rattle.refusals.specs.Checks.{Check, first, refuses, bookRoomCheck, storedChecks}
+use Rattle.refusals.proofs.Accepted.{accepted, flag-set, first-refused, first-passed, more-refuse, more-pass}
 use Rattle.refusals.proofs.Answered.{answered-yes, answered-no, answered-is, answered-number}
 use Rattle.accounts.specs.Accounts.{Account, headBytes, encode, encodeAll, accounts, entryOf}
 use Rattle.accounts.specs.Book.{has, placeOf, without, with, isBook, rewritten}
@@ -56,20 +56,12 @@ module _ (number used : ℕ) (book : List ℕ) {f : BookAnswer} (is : f ≡ find
         record {
           passes = ap₂ (λ (s t : Bool). s || (t || false)) (le-ltb _ _ (bounds .0 .0)) (le-ltb _ _ (bounds .0 .1 .0));
           inside = bounds .0 .0;
-          is-book = flagged (isBook (take used book)) (bounds .0 .1 .0);
+          is-book = flag-set (isBook (take used book)) (bounds .0 .1 .0);
         }
-      where
-        flagged : (t : Bool) → 1 ≤ flag t → t ≡ true
-        flagged true h = refl
-        flagged false h = absurd (omega arith)
 
     pub found-has : has number l ≡ true
     unfolding findChecks
-    found-has = flagged (has number l) (accepted (findChecks number used book) (omega arith) no-refusal .1 .0 .0)
-      where
-        flagged : (t : Bool) → 1 ≤ flag t → t ≡ true
-        flagged true h = refl
-        flagged false h = absurd (omega arith)
+    found-has = flag-set (has number l) (accepted (findChecks number used book) (omega arith) no-refusal .1 .0 .0)
 
     pub found-at : f .place ≡ placeOf number l
     unfolding findAnswer placed

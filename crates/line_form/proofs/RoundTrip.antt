@@ -9,7 +9,7 @@ use lib.ListN.{length, take}
 use borrow.Author.Tests.{le-ltb}
 use Rattle.lists.proofs.ZipLaws.{put-front}
 use Rattle.refusals.specs.Checks.{_≤?_, Check, flag, first, refuses, answered, formCheck, outputCheck, storedChecks}
-use Rattle.refusals.proofs.Accepted.{accepted, first-passed, first-refused, first-none, first-before, first-other, first-last, more-pass}
+use Rattle.refusals.proofs.Accepted.{accepted, flag-set, first-passed, first-refused, first-none, first-before, first-other, first-last, more-pass}
 use Rattle.refusals.proofs.Answered.{answered-is, answered-number}
 use Rattle.line_form.specs.Line.{Values, Bytes, lineOf, isLine, valuesOf, lengthBy}
 use Rattle.line_form.specs.Contracts.{valueChecks, readChecks, lineValues, noValues, readAnswer, readNumber, Read, writeChecks, lineLength, noLength, writeNumber, Written}
@@ -73,11 +73,7 @@ module _ {line salt key salt′ key′ : List ℕ} {r : LineValues} (q : Read li
     read-bounds = let bounds = accepted (readChecks line (length salt) (length key)) (omega arith) read-none in (omega arith, omega arith, omega arith)
 
     line-is : isLine line ≡ true
-    line-is = set (isLine line) (read-bounds .0)
-      where
-        set : (b : Bool) → 1 ≤ flag b → b ≡ true
-        set true h = refl
-        set false h = absurd (omega arith)
+    line-is = flag-set (isLine line) (read-bounds .0)
 
     values-are : r ≡ lineValues (valuesOf line)
     unfolding readAnswer

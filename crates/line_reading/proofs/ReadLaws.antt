@@ -9,8 +9,8 @@ use mathlib.Core.List.{List, [], _∷_, _++_}
 use lib.Dec.{ltb}
 use lib.ListN.{length}
 use borrow.Author.Tests.{lt-ltb, le-ltb}
-use Rattle.refusals.specs.Checks.{_≤?_, Check, broken, refuses, range, flag, first, answered, keyCheck, shortSaltCheck, longSaltCheck, formCheck, outputCheck, storedChecks}
-use Rattle.refusals.proofs.Accepted.{accepted, first-refused, first-passed, first-before, first-joined}
+use Rattle.refusals.specs.Checks.{_≤?_, Check, broken, refuses, range, first, answered, keyCheck, shortSaltCheck, longSaltCheck, formCheck, outputCheck, storedChecks}
+use Rattle.refusals.proofs.Accepted.{accepted, flag-set, first-refused, first-passed, first-before, first-joined}
 use Rattle.refusals.proofs.Answered.{answered-yes, answered-no, answered-number}
 use Rattle.base64.specs.Base64.{decode, decodedLength}
 use Rattle.base64.proofs.Elements.{length-decode}
@@ -164,10 +164,6 @@ pub record Readable (l : List ℕ) (s k : ℕ) (e : Ends) : Type 0 where
   pub key-is : decode (partOf l (e .salt + 1) (length l)) ≡ valuesOf l .key
   pub salt-fits : decodedLength (length (partOf l (e .columns + 1) (e .salt))) ≤ s
   pub key-fits : decodedLength (length (partOf l (e .salt + 1) (length l))) ≤ k
-
-flag-set : (b : Bool) → 1 ≤ flag b → b ≡ true
-flag-set true h = refl
-flag-set false h = absurd (omega arith)
 
 module _ (l : List ℕ) (s k : ℕ) where
   pub read-number : {a : LineValues} → a ≡ readAnswer l s k → first (readChecks l s k) ≡ a .refusal

@@ -12,7 +12,7 @@ use borrow.Author.Tests.{ltb-false, le-ltb}
 use Rattle.settings.specs.declared.Parameters.{Parameters}
 use Rattle.settings.specs.declared.Lengths.{Lengths}
 use Rattle.refusals.proofs.Answered.{answered-yes, answered-no}
-use Rattle.refusals.specs.Checks.{answered, Bound, _≤?_, Check, broken, refuses, first, Kept, Accepted, costChecks, plainChecks, recordedChecks}
+use Rattle.refusals.specs.Checks.{answered, flag, Bound, _≤?_, Check, broken, refuses, first, Kept, Accepted, costChecks, plainChecks, recordedChecks}
 
 -- numbers above 0
 abbrev pub Numbered : List Check → Type 0
@@ -26,6 +26,11 @@ neither false u e = (refl, e)
 pub kept : (bounds : List Bound) → broken bounds ≡ false → Kept bounds
 kept [] e = tt
 kept (a ≤? b ∷ bounds) e = let p = neither (ltb b a) (broken bounds) e in (ltb-false _ _ (p .0), kept bounds (p .1))
+
+-- something is so where its check is passed
+pub flag-set : (b : Bool) → 1 ≤ flag b → b ≡ true
+flag-set true h = refl
+flag-set false h = absurd (omega arith)
 
 -- a bound by itself
 pub alone : (t : Bool) → t ≡ (t || false)
