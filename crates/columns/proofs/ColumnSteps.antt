@@ -212,11 +212,11 @@ module _ (S : Settings) (u : Undoes (S .addition)) (n : ℕ) where
           keeps-fill (λ s m. xorInto (cell (before * C + col) m) (rand s)) (λ s h. made-xor (rand s) (rand-words s (h .word)) made-before)
           (λ s m fits. length-zip bitXor (cell (before * C + col) m) (rand s) ∙ length-cell (12 * (before * C + col)) m (omega arith))
 
-  pub fill-column-keeps : (col : ℕ) → 0 * C + C ≤ n → col < C → Keeps n (Filled C 0 col) (Filled C 0 (suc col)) (fillColumn S col)
+  pub fill-column-keeps : (row0 col : ℕ) → row0 * C + C ≤ n → col < C → Keeps n (Filled C row0 col) (Filled C row0 (suc col)) (fillColumn S row0 col)
   unfolding fillColumn
-  fill-column-keeps col inside lt =
+  fill-column-keeps row0 col inside lt =
       keeps-then
-      (keeps-fill 0 col inside lt (λ s m. rand s) (λ s h. made-known (rand s) (rand-words s (h .word))) (λ s m fits. length-rand s))
+      (keeps-fill row0 col inside lt (λ s m. rand s) (λ s h. made-known (rand s) (rand-words s (h .word))) (λ s m fits. length-rand s))
       (keeps-call n S u)
 
   pub copy-column-keeps : (prev0 row0 col : ℕ) → prev0 * C + C ≤ row0 * C → row0 * C + C ≤ n → col < C
@@ -278,7 +278,7 @@ unfolding visitColumn
 visit-column-done S r col p s m s′ m′ es em = cc
 
 -- row 0 by its start
-pub fill-column-done : (S : Settings) (col mirror : ℕ) (a : RowStart) (s m s′ m′ : List ℕ) → firstWord a ≡ rowStart (S .columns) 0 → mirror ≡ mirrored S col
-    → s′ ≡ rounds (S .addition .sum) (S .rounds) s → m′ ≡ zipAt (λ x y. y) (cellStart a mirror) m (rand s) → work s′ m′ ≡ fillColumn S col (work s m)
+pub fill-column-done : (S : Settings) (row0 col mirror : ℕ) (a : RowStart) (s m s′ m′ : List ℕ) → firstWord a ≡ rowStart (S .columns) row0 → mirror ≡ mirrored S col
+    → s′ ≡ rounds (S .addition .sum) (S .rounds) s → m′ ≡ zipAt (λ x y. y) (cellStart a mirror) m (rand s) → work s′ m′ ≡ fillColumn S row0 col (work s m)
 unfolding fillColumn
-fill-column-done S col mirror a s m s′ m′ ea e es em = cc (start-place (S .columns) 0 a ea mirror)
+fill-column-done S row0 col mirror a s m s′ m′ ea e es em = cc (start-place (S .columns) row0 a ea mirror)

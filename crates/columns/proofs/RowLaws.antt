@@ -1,6 +1,7 @@
 -- Where rows lie, in a form that is linear in row · C, their cells by their starts, and the loop over the columns of a row, which every row
 -- of Setup makes. Assumes nothing.
 use mathlib.Core.Path.{_≡_, refl, ap, _∙_}
+use mathlib.Core.Logic.{inl, inr}
 use Prim.Native.Nat.{ℕ, _+_, _-_, _*_, _≤_, _<_}
 use native.Mathlib.Omega.{arith}
 use native.Mathlib.Nat.{suc-mul}
@@ -10,11 +11,13 @@ use lib.ListN.{length}
 use Rattle.lists.specs.Loop.{loop}
 use Rattle.lists.proofs.LoopLaws.{loop-none, loop-more, loop-end}
 use Rattle.places.specs.Places.{place, firstWord, cellStart}
+use Rattle.places.specs.declared.RowStart.{RowStart}
 use Rattle.places.proofs.PlaceLaws.{start-place}
+use Rattle.matrix.specs.Cells.{ApartCells}
 pub use Rattle.matrix.proofs.Apart.{row-before}
 use Rattle.columns.specs.declared.Rows.{Rows}
 use Rattle.columns.specs.declared.Starts.{Starts}
-use Rattle.columns.specs.Bounds.{startsOf, Within}
+use Rattle.columns.specs.Bounds.{startsOf, ApartRows, Within}
 use Rattle.columns.specs.Columns.{Work, work}
 
 -- a whole row more
@@ -26,6 +29,11 @@ pub within : (R C n : ℕ) → 12 * (R * C) ≤ n → (r : Rows) → r .row0 .0 
 within R C n room r h0 h1 p0 p1 =
     let row : (a : ℕ) → a < R → 12 * (a * C) + 12 * C ≤ n = λ a h. omega (arith, row-before a R C h) in
     record { row0 = row _ h0; row1 = row _ h1; prev0 = row _ p0; prev1 = row _ p1 }
+
+-- cells of two rows of which one ends before the other begins
+pub apart-cells : {C col col′ x y : ℕ} {a b : RowStart} → ApartRows C a b → col < C → col′ < C → x ≡ cellStart a col → y ≡ cellStart b col′ → ApartCells x y
+apart-cells (inl before) lt lt′ ex ey = inl (omega arith)
+apart-cells (inr after) lt lt′ ex ey = inr (omega arith)
 
 -- the cells of rows that start there
 module _ (C : ℕ) (r : Rows) {a : Starts} (e : a ≡ startsOf C r) (col : ℕ) where

@@ -15,7 +15,7 @@ use Rattle.sponge.specs.Sponge.{rand}
 use Rattle.sponge.proofs.Output.{length-rand}
 use Rattle.settings.specs.Settings.{Settings}
 use Rattle.matrix.specs.Cells.{cellFrom, rotated}
-use Rattle.matrix.proofs.CellLaws.{length-rotated}
+use Rattle.matrix.proofs.CellLaws.{length-rotated, length-xored}
 use Rattle.columns.specs.Columns.{Work, fillColumn, copyColumn, setupWritten, setupColumn, visitWritten, visitColumn}
 use Rattle.columns.specs.declared.Rows.{Rows}
 use Rattle.columns.specs.declared.Picks.{Picks}
@@ -31,19 +31,14 @@ cell-within : (f : ℕ → ℕ → ℕ) (n q : ℕ) (m words : List ℕ) → q <
     → cleared (12 * n) (zipAt f (12 * q) m words) ≡ cleared (12 * n) m
 cell-within f n q m words lt len = cleared-zipAt f (12 * n) (12 * q) m words (omega arith)
 
--- a cell of any list, XORed with words
-length-xored : (a : ℕ) (m words : List ℕ) → length (xorInto (cellFrom a m) words) ≤ 12
-unfolding cellFrom
-length-xored a m words = omega (arith, length-zip bitXor (cellFrom a m) words, length-take 12 (drop a m))
-
 module _ (S : Settings) (n col : ℕ) (lt : col < S .columns) where
   abbrev C : ℕ
   C = S .columns
 
-  pub fill-column-within : 0 * C + C ≤ n → ChangesWithin n (fillColumn S col)
+  pub fill-column-within : (row0 : ℕ) → row0 * C + C ≤ n → ChangesWithin n (fillColumn S row0 col)
   unfolding fillColumn
-  fill-column-within inside w =
-      cell-within (λ x y. y) n (0 * C + (C - 1 - col)) (w .matrix) (rand (w .state)) (omega arith) (omega (arith, length-rand (w .state)))
+  fill-column-within row0 inside w =
+      cell-within (λ x y. y) n (row0 * C + (C - 1 - col)) (w .matrix) (rand (w .state)) (omega arith) (omega (arith, length-rand (w .state)))
 
   pub copy-column-within : (prev0 row0 : ℕ) → row0 * C + C ≤ n → ChangesWithin n (copyColumn S prev0 row0 col)
   unfolding copyColumn

@@ -1,5 +1,6 @@
 -- What the code of a column asks of the rows that it works on, by their starts.
 use mathlib.Core.Path.{_≡_}
+use mathlib.Core.Logic.{_⊎_}
 use Prim.Native.Nat.{ℕ, _≤_, _<_}
 use mathlib.Core.List.{List}
 use Rattle.settings.specs.Settings.{Settings}
@@ -28,10 +29,14 @@ pub record Within (C : ℕ) (a : Starts) (n : ℕ) : Type 0 where
   pub prev0 : cellStart (a .prev0) C ≤ n
   pub prev1 : cellStart (a .prev1) C ≤ n
 
--- the revisited row ends before the row that is filled begins, and before the one that was filled last, as in Setup
-pub record Behind (C : ℕ) (a : Starts) : Type 0 where
-  pub row0 : cellStart (a .row1) C ≤ firstWord (a .row0)
-  pub prev0 : cellStart (a .row1) C ≤ firstWord (a .prev0)
+-- one of two rows ends before the other begins
+abbrev pub ApartRows : ℕ → RowStart → RowStart → Type 0
+ApartRows C a b = (cellStart a C ≤ firstWord b) ⊎ (cellStart b C ≤ firstWord a)
+
+-- the revisited row is neither the row that is filled nor the one that was filled last, as in Setup
+pub record Apart (C : ℕ) (a : Starts) : Type 0 where
+  pub row0 : ApartRows C (a .row1) (a .row0)
+  pub prev0 : ApartRows C (a .row1) (a .prev0)
 
 -- what the output of a state picks, which is two columns
 pub record Picked (S : Settings) (s : List ℕ) (p : Picks) : Type 0 where

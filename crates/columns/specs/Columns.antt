@@ -34,10 +34,10 @@ cellOf S = cellAt (S .columns)
 abbrev pub mirrored : Settings → ℕ → ℕ
 mirrored S col = S .columns - 1 - col
 
--- Setup, row 0
-unfoldable pub fillColumn : Settings → ℕ → Work → Work
-fillColumn S col w =
-    work (rounds (S .addition .sum) (S .rounds) (w .state)) (putCell (S .columns) 0 (mirrored S col) (rand (w .state)) (w .matrix))
+-- Setup, a row that is made of the sponge's output alone
+unfoldable pub fillColumn : Settings → ℕ → ℕ → Work → Work
+fillColumn S row0 col w =
+    work (rounds (S .addition .sum) (S .rounds) (w .state)) (putCell (S .columns) row0 (mirrored S col) (rand (w .state)) (w .matrix))
 
 -- Setup, a row that is made of the row before it alone
 unfoldable pub copyColumn : Settings → ℕ → ℕ → ℕ → Work → Work

@@ -1,17 +1,15 @@
 -- A derivation: the input is absorbed, Setup fills the matrix, the visits change it, a last cell is absorbed, the key is squeezed.
 use Prim.Native.Nat.{ℕ, _-_}
 use mathlib.Core.List.{List}
-use Rattle.profile.specs.Profile.{fullRounds}
-use Rattle.sponge.specs.Sponge.{absorb}
 use Rattle.settings.specs.Settings.{Settings}
 use Rattle.settings.specs.Sizes.{visitCount}
 use Rattle.input.specs.Input.{Input, inputState}
-use Rattle.matrix.specs.Cells.{cellAt}
 use Rattle.columns.specs.Columns.{work}
 use Rattle.setup_order.specs.SetupOrder.{order}
 use Rattle.setup.specs.Setup.{setup}
 use Rattle.wandering.specs.Visits.{Walk, walk, Visit, wander, visits}
 use Rattle.wandering.specs.Encoding.{encode}
+use Rattle.last_cell.specs.LastCell.{lastAbsorbed}
 use Rattle.key.specs.Key.{keyBytes}
 
 -- what Setup leaves of a state and a matrix: the first visit's previous rows are those of Setup's last step
@@ -22,9 +20,9 @@ setupEnd S s m = walk (setup S (work s m)) (S .rows - 1) (order (S .rows - 3) .p
 unfoldable pub walkEnd : Settings → Input → List ℕ → Walk
 walkEnd S x m = wander S (visitCount S) (setupEnd S (inputState S x) m)
 
--- the state that the key is squeezed from: cell (prev0, 0) is absorbed with a full call
+-- the state that the key is squeezed from
 unfoldable pub finalState : Settings → Walk → List ℕ
-finalState S w = absorb (S .addition .sum) fullRounds (cellAt (S .columns) (w .prev0) 0 (w .done .matrix)) (w .done .state)
+finalState S w = lastAbsorbed S (w .prev0) (w .done)
 
 -- ---- what a derivation gives: the key, and the state, the matrix, the visits and the used record after the last visit
 

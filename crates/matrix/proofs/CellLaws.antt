@@ -9,12 +9,12 @@ use lib.ListN.{length, getD, take, drop, length-take, length-drop}
 use lib.Bits.{bitXor, xor-comm}
 use Rattle.lists.specs.Zip.{zipAt, xorInto, tabulate}
 use Rattle.lists.proofs.Words.{AllWords}
-use Rattle.lists.proofs.ZipLaws.{length-tabulate, getD-tabulate, tabulate-words, put-zip}
-use Rattle.lists.proofs.Parts.{part-after, apart-swap, zipAt-swap}
+use Rattle.lists.proofs.ZipLaws.{length-zip, length-tabulate, getD-tabulate, tabulate-words, put-zip}
+use Rattle.lists.proofs.Parts.{part-before, part-after, apart-swap, zipAt-swap}
 use Rattle.mixer.proofs.WordLaws.{xor-assoc}
 use Rattle.rate.specs.Rate.{rand}
 use Rattle.rate.proofs.Words.{getD-rand}
-use Rattle.matrix.specs.Cells.{cellFrom, rotated}
+use Rattle.matrix.specs.Cells.{cellFrom, ApartCells, rotated}
 
 pub length-rotated : (ω : ℕ) (words : List ℕ) → length (rotated ω words) ≡ 12
 unfolding rotated
@@ -53,17 +53,29 @@ pub put-xored : (a : ℕ) (m words : List ℕ) → length words ≡ 12 → zipAt
 unfolding cellFrom zipAt
 put-xored a m words h = ap (λ (l : List ℕ). take a m ++ l) (put-zip bitXor 12 (drop a m) words (omega (arith, h)))
 
-pub cell-after : (a b : ℕ) (m words : List ℕ) → b + length words ≤ a → cellFrom a (zipAt bitXor b m words) ≡ cellFrom a m
+-- a cell of any list, XORed with words
+pub length-xored : (a : ℕ) (m words : List ℕ) → length (xorInto (cellFrom a m) words) ≤ 12
 unfolding cellFrom
-cell-after a b m words h = part-after bitXor b a 12 m words h
+length-xored a m words = omega (arith, length-zip bitXor (cellFrom a m) words, length-take 12 (drop a m))
+
+-- a cell stays as it is where words are XORed into another, and the other may be changed before it or after it
+module _ (a b : ℕ) (m words : List ℕ) (len : length words ≡ 12) where
+  pub cell-apart : ApartCells b a → cellFrom a (zipAt bitXor b m words) ≡ cellFrom a m
+  unfolding cellFrom
+  cell-apart (inl before) = part-after bitXor b a 12 m words (omega arith)
+  cell-apart (inr after) = part-before bitXor b a 12 m words after
+
+  pub apart-order : (f : ℕ → ℕ → ℕ) (others : List ℕ) → length others ≤ 12 → ApartCells b a → zipAt f a (zipAt bitXor b m words) others ≡ zipAt bitXor b (zipAt f a m others) words
+  apart-order f others short (inl before) = apart-swap f bitXor a b m others words (omega arith)
+  apart-order f others short (inr after) = sym (apart-swap bitXor f b a m words others (omega arith))
 
 -- a cell written from another one XORed with words, and other words XORed into a cell: in either order where the first write is an XOR too,
--- or where the second cell lies before both
+-- or where the second cell is apart from both
 module _ (from to back : ℕ) (m out turned : List ℕ) (long : length out ≡ 12) (long′ : length turned ≡ 12) where
   abbrev written : List ℕ → List ℕ
   written l = zipAt (λ x y. y) to l (xorInto (cellFrom from l) out)
 
-  pub either-order : (from ≡ to) ⊎ ((back + 12 ≤ from) × (back + 12 ≤ to))
+  pub either-order : (from ≡ to) ⊎ (ApartCells back from × ApartCells back to)
       → written (zipAt bitXor back m turned) ≡ zipAt bitXor back (written m) turned
   either-order (inl one) =
       let xored : (l : List ℕ) → written l ≡ zipAt bitXor to l out = λ l. ap (λ (n : ℕ). zipAt (λ x y. y) to l (xorInto (cellFrom n l) out)) one ∙ put-xored to l out long in
@@ -71,6 +83,5 @@ module _ (from to back : ℕ) (m out turned : List ℕ) (long : length out ≡ 1
       xored (zipAt bitXor back m turned) ∙ zipAt-swap bitXor bitXor turns to back m out turned
       ∙ ap (λ (l : List ℕ). zipAt bitXor back l turned) (sym (xored m))
   either-order (inr apart) =
-      let read = cell-after from back m turned (omega (arith, apart .0, long′)) in
-      ap (λ (l : List ℕ). zipAt (λ x y. y) to (zipAt bitXor back m turned) (xorInto l out)) read
-      ∙ apart-swap (λ x y. y) bitXor to back m (xorInto (cellFrom from m) out) turned (omega (arith, apart .1, long′))
+      ap (λ (l : List ℕ). zipAt (λ x y. y) to (zipAt bitXor back m turned) (xorInto l out)) (cell-apart from back m turned long′ (apart .0))
+      ∙ apart-order to back m turned long′ (λ x y. y) (xorInto (cellFrom from m) out) (length-xored from m out) (apart .1)

@@ -1,5 +1,6 @@
 -- Cells of a matrix of C columns, what is written to them, and the rotation.
-use Prim.Native.Nat.{ℕ, _+_, _%_}
+use Prim.Native.Nat.{ℕ, _+_, _%_, _≤_}
+use mathlib.Core.Logic.{_⊎_}
 use mathlib.Core.List.{List}
 use lib.ListN.{take, drop, getD}
 use lib.Bits.{bitXor}
@@ -13,6 +14,10 @@ cellFrom a m = take cellWords (drop a m)
 
 abbrev pub cellAt : ℕ → ℕ → ℕ → List ℕ → List ℕ
 cellAt C row col m = cellFrom (place C row col) m
+
+-- the cells that start at two words share no word
+abbrev pub ApartCells : ℕ → ℕ → Type 0
+ApartCells a b = (a + cellWords ≤ b) ⊎ (b + cellWords ≤ a)
 
 -- a cell overwritten
 abbrev pub putCell : ℕ → ℕ → ℕ → List ℕ → List ℕ → List ℕ

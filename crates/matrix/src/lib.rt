@@ -12,7 +12,7 @@ ghost use Rattle.lists.specs.Zip.{zipAt, xorInto};
 ghost use Rattle.profile.specs.Profile.{cellWords};
 ghost use Rattle.rate.specs.Rate.{rand as «rand-of»};
 ghost use Rattle.places.specs.Places.{cellStart};
-ghost use Rattle.matrix.specs.Cells.{cellFrom, rotated};
+ghost use Rattle.matrix.specs.Cells.{cellFrom, ApartCells, rotated};
 
 // The twelve words of the cell in a column of the row that starts there, as a part of the matrix.
 pub fn cell(m: &[u64], row: RowStart, col: Column) -> &[u64]
@@ -111,7 +111,7 @@ pub fn write_rotated(
     omega: usize,
 )
     requires { ⌜ (from + cellWords ≤ length (now m)) × (to + cellWords ≤ length (now m)) × (back + cellWords ≤ length (now m)) ⌝ }
-    requires { ⌜ (from ≡ to) ⊎ ((back + cellWords ≤ from) × (back + cellWords ≤ to)) ⌝ }
+    requires { ⌜ (from ≡ to) ⊎ (ApartCells back from × ApartCells back to) ⌝ }
     ensures { λ _. ⌜ now (m .exit) ≡ zipAt bitXor back (zipAt (λ x y. y) to (now (m .entry)) (xorInto (cellFrom from (now (m .entry))) («rand-of» (now (s .entry))))) (rotated omega («rand-of» (now (s .entry)))) ⌝ }
 {
     let rand = output(s);

@@ -1,13 +1,10 @@
 // A run of the sponge over the matrix: the input, Setup and the visits, then the last cell.
 use input::absorb_input;
-use matrix::cell;
-use places::Column;
+use last_cell::absorb_last;
 use places::Row;
-use places::RowStart;
 use profile::Profile;
 use settings::Parameters;
 use setup::set_up;
-use sponge::duplex::absorb_cell;
 use wandering::wander;
 ghost use mathlib.Core.Path.{_≡_};
 ghost use Prim.Native.Nat.{_+_, _≤_, _<_, _^_};
@@ -45,11 +42,12 @@ pub fn run(
     *s = Profile::start();
     let full = absorb_input(s, password, salt, key_length, p);
     let set = set_up(s, m, p);
+    let order = set.order;
     let v = wander(
         s,
         m,
         Row(p.rows - 1),
-        Row(set.prev1),
+        Row(order.prev1),
         p.rows * p.time,
         p,
         record,
@@ -69,11 +67,7 @@ pub fn finish(s: &mut [u64; 16], ran: Ran, m: &[u64], p: Parameters) -> u64
     requires { ⌜ (1 ≤ p .columns) × (ran .row0 .0 < p .rows) × (ran .row1 .0 < p .rows) × (matrixWords (settings p) ≤ length (now m)) × (ran .full < 2 ^ 32) ⌝ }
     ensures { λ r. ⌜ (r ≡ ran .full + 1) × (now (s .exit) ≡ finalState (settings p) (walk (work (now (s .entry)) (now (m .entry))) (ran .row0 .0) (ran .row1 .0))) ⌝ }
 {
-    let mixer = p.mixer;
-    absorb_cell(
-        s,
-        cell(m, RowStart::of(ran.row0, p.columns), Column(0)),
-        mixer,
-    );
+    let row0 = ran.row0;
+    absorb_last(s, m, row0, p);
     ran.full + 1
 }

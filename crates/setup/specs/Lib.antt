@@ -1,2 +1,3 @@
 -- Setup.
 pub mod Setup
+pub mod Reach

@@ -1,4 +1,4 @@
--- Setup: row 0 from the sponge, rows 1 and 2 from the row before, every further row from three rows.
+-- Setup: a first row from the sponge, the next two each from the row before, every further row from three rows.
 use Prim.Native.Nat.{ℕ, _+_, _-_}
 use Rattle.lists.specs.Loop.{loop}
 use Rattle.settings.specs.Settings.{Settings}
@@ -7,8 +7,8 @@ use Rattle.setup_order.specs.declared.Order.{Order}
 use Rattle.columns.specs.declared.Rows.{Rows}
 use Rattle.columns.specs.Columns.{rowsOf, Work, fillColumn, copyColumn, setupColumn}
 
-unfoldable pub fillRow : Settings → Work → Work
-fillRow S w = loop (fillColumn S) (S .columns) w
+unfoldable pub fillRow : Settings → ℕ → Work → Work
+fillRow S row0 w = loop (fillColumn S row0) (S .columns) w
 
 unfoldable pub copyRow : Settings → ℕ → ℕ → Work → Work
 copyRow S prev0 row0 w = loop (copyColumn S prev0 row0) (S .columns) w
@@ -16,13 +16,24 @@ copyRow S prev0 row0 w = loop (copyColumn S prev0 row0) (S .columns) w
 unfoldable pub setupRow : Settings → Rows → Work → Work
 setupRow S r w = loop (setupColumn S r) (S .columns) w
 
--- the rows of the step that fills row 3 + k, from the order of that row
-abbrev pub rowsWith : ℕ → Order → Rows
-rowsWith k o = rowsOf (3 + k) (o .row1) (2 + k) (o .prev1)
+-- ---- rows are counted from row `own` of the matrix on, and those that are revisited from row `other` on: both are 0 where one sponge
+-- fills all rows
 
--- n rows from row 3 on
-unfoldable pub setupRows : Settings → ℕ → Work → Work
-setupRows S n w = loop (λ k. setupRow S (rowsWith k (order k))) n w
+-- rows 0 to 2
+unfoldable pub firstRows : Settings → ℕ → Work → Work
+firstRows S own w = copyRow S (own + 1) (own + 2) (copyRow S own (own + 1) (fillRow S own w))
+
+-- the rows of the step that fills row 3 + k, from the order of that row
+abbrev pub rowsWith : ℕ → ℕ → ℕ → Order → Rows
+rowsWith own other k o = rowsOf (own + (3 + k)) (other + o .row1) (own + (2 + k)) (other + o .prev1)
+
+-- row 3 + k
+unfoldable pub setupStep : Settings → ℕ → ℕ → ℕ → Work → Work
+setupStep S own other k = setupRow S (rowsWith own other k (order k))
+
+-- n rows from row 3 + k on
+unfoldable pub setupRows : Settings → ℕ → ℕ → ℕ → ℕ → Work → Work
+setupRows S own other k n w = loop (λ d. setupStep S own other (k + d)) n w
 
 unfoldable pub setup : Settings → Work → Work
-setup S w = setupRows S (S .rows - 3) (copyRow S 1 2 (copyRow S 0 1 (fillRow S w)))
+setup S w = setupRows S 0 0 0 (S .rows - 3) (firstRows S 0 w)

@@ -14,7 +14,7 @@ ghost use mathlib.Core.Path.{_≡_};
 ghost use Prim.Native.Nat.{_<_};
 ghost use lib.ListN.{length};
 ghost use Rattle.settings.specs.Settings.{settings};
-ghost use Rattle.columns.specs.Bounds.{AtRows, Behind, Within};
+ghost use Rattle.columns.specs.Bounds.{AtRows, Apart, Within};
 ghost use Rattle.columns.specs.Columns.{work, mirrored, duplexed, setupCells, setupWritten, setupColumn};
 
 // What it duplexes.
@@ -42,7 +42,7 @@ fn write_setup(
     mirror: Column,
     p: Parameters,
 )
-    requires { ⌜ (col .0 < p .columns) × (mirror .0 ≡ mirrored (settings p) (col .0)) × Within (p .columns) rows (length (now m)) × Behind (p .columns) rows ⌝ }
+    requires { ⌜ (col .0 < p .columns) × (mirror .0 ≡ mirrored (settings p) (col .0)) × Within (p .columns) rows (length (now m)) × Apart (p .columns) rows ⌝ }
     ensures { λ _. ⌜ AtRows (p .columns) rows (λ r. now (m .exit) ≡ setupWritten (settings p) r (col .0) (now (s .entry)) (now (m .entry))) ⌝ }
 {
     let to = rows.row0.cell_start(mirror);
@@ -66,7 +66,7 @@ pub fn setup_column(
     mirror: Column,
     p: Parameters,
 )
-    requires { ⌜ (col .0 < p .columns) × (mirror .0 ≡ mirrored (settings p) (col .0)) × Within (p .columns) rows (length (now m)) × Behind (p .columns) rows ⌝ }
+    requires { ⌜ (col .0 < p .columns) × (mirror .0 ≡ mirrored (settings p) (col .0)) × Within (p .columns) rows (length (now m)) × Apart (p .columns) rows ⌝ }
     ensures { λ _. ⌜ AtRows (p .columns) rows (λ r. work (now (s .exit)) (now (m .exit)) ≡ setupColumn (settings p) r (col .0) (work (now (s .entry)) (now (m .entry)))) ⌝ }
 {
     duplex_setup(s, m, rows, col, p);

@@ -4,6 +4,7 @@ use mathlib.Core.Path.{_≡_, refl, sym, ap, _∙_}
 use Prim.Native.Nat.{ℕ, zero, suc, _+_, _-_, _*_, _/_, _%_, _^_, _≤_, _<_}
 use native.Mathlib.Nat.{add-suc, pow-suc, suc-mul, zero-mod, zero-mul, mod-lt, mod-eq-of-lt, mod-add-mod, mul-mod-right, eq-or-lt-of-le}
 use native.Mathlib.Nat.{mod-one, mul-assoc, mul-add, mul-one}
+use native.Mathlib.Numerals.{add-one}
 use native.Mathlib.Decide.{decLt}
 use native.Mathlib.Omega.{arith}
 use mathlib.Core.Bool.{Bool, true, false, cond, not}
@@ -152,6 +153,10 @@ order-at zero = first-at
 order-at (suc k) = rw add-suc (next-at (order-at k))
 
 -- ---- what callers use, of the order of row 3 + k
+
+pub order-next : (k : ℕ) → nextOrder (order k) ≡ order (k + 1)
+unfolding order
+order-next k = rw add-one refl
 
 pub wnd-le : (k : ℕ) → order k .wnd ≤ 3 + k
 wnd-le k = omega (arith, order-at k .row0-is)

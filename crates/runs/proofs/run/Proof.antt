@@ -13,6 +13,7 @@ use Rattle.settings.specs.declared.Parameters.{Parameters}
 use Rattle.settings.specs.declared.Lengths.{Lengths}
 use Rattle.input.specs.Input.{input, numbers, absorbInput, inputState}
 use Rattle.columns.specs.Columns.{Work, work}
+use Rattle.setup_order.specs.declared.Order.{Order}
 use Rattle.setup_order.proofs.Windows.{prev1-lt}
 use Rattle.setup.specs.Setup.{setup}
 use Rattle.wandering.specs.Visits.{Walk, walk, wander, visits}
@@ -46,13 +47,13 @@ few l p m h =
 wander-requires : tie.Need-wander-requires
 unfolding plainChecks costChecks
 wander-requires c κs =
-    let start = c .before .before .before .before .before .before .before .before .before .before .before .before .before .before .before .before .before in
-    let up = c .before .before .before .before .before .before .before .set-up in
+    let start = c .before .before .before .before .before .before .before .before .before .before .before .before .before .before .before .before .before .before in
+    let up = c .before .before .before .before .before .before .before .before .set-up in
     let f = few _ (start .args .p) _ (start .pre) in (
       record {
         packable = omega (arith, start .pre);
         prev0-lt = omega (arith, start .pre);
-        prev1-lt = omega (arith, start .pre, up .ensures .0, prev1-lt (start .args .p .rows - 3));
+        prev1-lt = rw (up .ensures .0) (omega (arith, start .pre, prev1-lt (start .args .p .rows - 3)));
         room = omega (arith, up .kept .1 .0, start .pre);
       },
       omega (arith, f .words),
@@ -62,15 +63,15 @@ wander-requires c κs =
 returns : tie.Need-returns
 unfolding walkEnd endRecord inputState setupEnd
 returns c =
-    let a = c .before .before .before .before .before .before .before .before .before .before .before .before .before .before .before .before .before .before .before .before .before .before .before .before .before .before .args in
+    let a = c .before .before .before .before .before .before .before .before .before .before .before .before .before .before .before .before .before .before .before .before .before .before .before .before .before .before .before .args in
     let S = settings (a .p) in
     let x = input (now (a .password)) (now (a .salt)) (a .key-length) in
-    let i = c .before .before .before .before .before .before .before .before .before .before .before .before .before .before .before .before .before .before .before .absorb-input .ensures in
-    let up = c .before .before .before .before .before .before .before .before .before .before .before .before .before .before .before .before .set-up .ensures in
+    let i = c .before .before .before .before .before .before .before .before .before .before .before .before .before .before .before .before .before .before .before .before .absorb-input .ensures in
+    let up = c .before .before .before .before .before .before .before .before .before .before .before .before .before .before .before .before .before .set-up .ensures in
     let v = c .before .before .before .before .before .before .before .before .wander .ensures in
-    let from = i .0 ∙ ap (absorbInput (sumOf (a .p .mixer)) (x .password) (x .salt) (numbers x S)) (c .before .before .before .before .before .before .before .before .before .before .before .before .before .before .before .before .before .before .before .before .before .start .ensures) in
+    let from = i .0 ∙ ap (absorbInput (sumOf (a .p .mixer)) (x .password) (x .salt) (numbers x S)) (c .before .before .before .before .before .before .before .before .before .before .before .before .before .before .before .before .before .before .before .before .before .before .start .ensures) in
     let e =
-    ap₂ (λ (w : Work) (q : ℕ). walk w (a .p .rows - 1) q) (up .2 ∙ ap (λ (s : List ℕ). setup S (work s (now (a .m)))) from) (up .0) in
+    ap₂ (λ (w : Work) (o : Order). walk w (a .p .rows - 1) (o .prev1)) (up .2 ∙ ap (λ (s : List ℕ). setup S (work s (now (a .m)))) from) (up .0) in
     record {
       full = i .1;
       reduced = omega (arith, up .1, v .counted, calls-sum (a .p .rows) (a .p .columns) (a .p .time));
@@ -84,8 +85,8 @@ pub run-spec : {M : Type 1} → statement M
 unfolding plainChecks costChecks
 run-spec =
     tie.close
-    (tie.spec (omega arith) (omega arith) (omega arith) (omega arith) (λ c. omega (arith, few _ (c .before .before .before .before .before .before .before .before .before .before .before .before .before .before .before .before .args .p) _ (c .before .before .before .before .before .before .before .before .before .before .before .before .before .before .before .before .pre) .visits)) wander-requires
+    (tie.spec (omega arith) (omega arith) (omega arith) (λ c. omega (arith, c .before .before .before .before .before .before .before .before .before .before .before .before .before .before .before .before .pre)) (λ c. omega (arith, few _ (c .before .before .before .before .before .before .before .before .before .before .before .before .before .before .before .before .before .args .p) _ (c .before .before .before .before .before .before .before .before .before .before .before .before .before .before .before .before .before .pre) .visits)) wander-requires
     (λ c.
-    let f = few _ (c .before .before .before .before .before .before .before .before .before .before .before .before .before .before .before .before .before .before .before .before .before .before .before .before .before .before .args .p) _ (c .before .before .before .before .before .before .before .before .before .before .before .before .before .before .before .before .before .before .before .before .before .before .before .before .before .before .pre) in
-    omega (arith, f .cells, f .calls, c .before .before .before .before .before .before .before .before .before .before .before .before .before .before .before .before .set-up .ensures .1, c .before .before .before .before .before .before .before .before .wander .ensures .counted))
+    let f = few _ (c .before .before .before .before .before .before .before .before .before .before .before .before .before .before .before .before .before .before .before .before .before .before .before .before .before .before .before .args .p) _ (c .before .before .before .before .before .before .before .before .before .before .before .before .before .before .before .before .before .before .before .before .before .before .before .before .before .before .before .pre) in
+    omega (arith, f .cells, f .calls, c .before .before .before .before .before .before .before .before .before .before .before .before .before .before .before .before .before .set-up .ensures .1, c .before .before .before .before .before .before .before .before .wander .ensures .counted))
     (omega arith) (omega arith) returns)

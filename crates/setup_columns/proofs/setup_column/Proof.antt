@@ -10,4 +10,4 @@ returns c r e = cc (c .before .before .write-setup .ensures r e, c .before .befo
 
 pub setup-column-spec : {M : Type 1} → statement M
 setup-column-spec =
-    tie.close (tie.spec (omega arith) (omega arith) (omega arith) returns)
+    tie.close (tie.spec (omega arith) (λ c κs. (omega arith, omega arith, omega arith, c .before .before .before .before .before .before .pre .3)) (omega arith) returns)

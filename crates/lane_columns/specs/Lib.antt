@@ -1,0 +1,2 @@
+-- One column of a lane's visit.
+pub mod LaneColumns

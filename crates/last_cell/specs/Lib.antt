@@ -1,0 +1,2 @@
+-- The last cell of a derivation.
+pub mod LastCell
