@@ -1,0 +1,2 @@
+-- The laws of the lanes.
+pub mod Halves
