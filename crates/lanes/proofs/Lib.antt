@@ -1,2 +1,3 @@
 -- The laws of the lanes.
 pub mod Halves
+pub mod InTurn

@@ -9,13 +9,13 @@ use Rattle.lanes.specs.Meetings.{firstRow, rowsIn}
 unfoldable pub laneFirstRows : Settings → ℕ → ℕ → Works → Works
 laneFirstRows S n i = inLane i (firstRows S (laneStart n i))
 
--- interval t of lane i: after t meetings the rows that it revisits are those of lane (i + t) mod p
-unfoldable pub laneSetup : Settings → ℕ → ℕ → ℕ → ℕ → Works → Works
-laneSetup S p n t i = inLane i (setupRows S (laneStart n i) (laneStart n ((i + t) % p)) (firstRow t - 3) (rowsIn n t))
+-- lane i fills `count` rows from row 3 + k on, after t meetings: the rows that it revisits are those of lane (i + t) mod p
+unfoldable pub laneSetup : Settings → ℕ → ℕ → ℕ → ℕ → ℕ → ℕ → Works → Works
+laneSetup S p n t k count i = inLane i (setupRows S (laneStart n i) (laneStart n ((i + t) % p)) k count)
 
-unfoldable pub setupInterval : Settings → ℕ → ℕ → ℕ → Works → Works
-setupInterval S p n t = loop (laneSetup S p n t) p
+unfoldable pub setupInTurn : Settings → ℕ → ℕ → ℕ → ℕ → ℕ → Works → Works
+setupInTurn S p n t k count w = loop (laneSetup S p n t k count) p w
 
 -- every interval has a row, so that there are fewer than n; those that begin after the last row have none
 unfoldable pub setupLanes : Settings → ℕ → ℕ → Works → Works
-setupLanes S p n w = loop (setupInterval S p n) n (loop (laneFirstRows S n) p w)
+setupLanes S p n w = loop (λ t. setupInTurn S p n t (firstRow t - 3) (rowsIn n t)) n (loop (laneFirstRows S n) p w)

@@ -1,6 +1,8 @@
 -- Induction over a `loop`, and the steps of a code's loop that follows one. Assumes nothing.
-use mathlib.Core.Path.{_≡_, refl, ap, _∙_}
-use Prim.Native.Nat.{ℕ, zero, suc, _+_, _<_}
+use mathlib.Core.Path.{_≡_, refl, sym, ap, _∙_}
+use mathlib.Core.Logic.{⊎-elim}
+use Prim.Native.Nat.{ℕ, zero, suc, _+_, _≤_, _<_}
+use native.Mathlib.Nat.{eq-or-lt-of-le}
 use native.Mathlib.Numerals.{add-one}
 use native.Mathlib.Omega.{arith}
 use Rattle.lists.specs.Loop.{loop}
@@ -24,3 +26,12 @@ module _ {A : Type 0} (f : ℕ → A → A) where
 
   pub loop-end : (n k : ℕ) (start now : A) → now ≡ loop f n start → n ≡ k → now ≡ loop f k start
   loop-end n k start now inv e = inv ∙ ap (λ (i : ℕ). loop f i start) e
+
+  -- steps that change nothing may be left out at the end
+  idle-last : (k n : ℕ) (a : A) → k ≤ n → ((i : ℕ) → k ≤ i → (b : A) → f i b ≡ b) → loop f n a ≡ loop f k a → loop f (suc n) a ≡ loop f k a
+  unfolding loop
+  idle-last k n a le idle before = idle n le (loop f n a) ∙ before
+
+  pub loop-idle : (k n : ℕ) (a : A) → k ≤ n → ((i : ℕ) → k ≤ i → (b : A) → f i b ≡ b) → loop f n a ≡ loop f k a
+  loop-idle k zero a le idle = ap (λ (i : ℕ). loop f i a) (omega arith)
+  loop-idle k (suc n) a le idle = ⊎-elim (λ eq. ap (λ (i : ℕ). loop f i a) (sym eq)) (λ lt. idle-last k n a (omega arith) idle (loop-idle k n a (omega arith) idle)) (eq-or-lt-of-le le)

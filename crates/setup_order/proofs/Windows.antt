@@ -175,6 +175,14 @@ row1-behind k =
           omega (arith, h .row1-is ∙ ap (λ (n : ℕ). n * order k .stp % order k .wnd) first ∙ ap (λ (n : ℕ). n % order k .wnd) (zero-mul (order k .stp)) ∙ zero-mod (order k .wnd))
     ]
 
+pub sqrt-least : (k : ℕ) → 2 ≤ order k .sqrt
+sqrt-least k =
+    let w = order-at k .window in
+    omega (arith, w .sqrt-is, pow-suc 2 (w .a), pow-pos (w .a))
+
+pub sqrt-most : (k : ℕ) → order k .sqrt ≤ 3 + k
+sqrt-most k = omega (arith, numbers (order k .rising) (order-at k .window) .sqrt-le, wnd-le k)
+
 pub prev1-lt : (k : ℕ) → order k .prev1 < 3 + k
 prev1-lt k = omega (arith, order-at k .prev1-lt, wnd-le k)
 
