@@ -7,7 +7,7 @@ use Rattle.settings.specs.Settings.{Settings}
 use Rattle.columns.specs.Columns.{Work, pickedBy}
 use Rattle.columns.specs.declared.Rows.{Rows}
 use Rattle.lane_columns.specs.LaneColumns.{laneRows, laneColumn}
-use Rattle.lanes.specs.Lanes.{Works, works, workOf, laneStart}
+use Rattle.lanes.specs.Lanes.{Works, workOf, putWork, laneStart}
 use Rattle.lanes.specs.Meetings.{visitsIn}
 
 -- ---- one lane
@@ -58,7 +58,7 @@ abbrev pub walkOf : ℕ → Lanes → LaneWalk
 walkOf i l = laneWalk (workOf i (l .done)) (getD (l .prevs) i 0)
 
 abbrev pub put : ℕ → LaneWalk → Lanes → Lanes
-put i w l = lanes (works (set (l .done .states) i (w .done .state)) (w .done .matrix)) (set (l .prevs) i (w .prev0))
+put i w l = lanes (putWork i (w .done) (l .done)) (set (l .prevs) i (w .prev0))
 
 abbrev pub step : (ℕ → LaneWalk → LaneWalk) → ℕ → Lanes → Lanes
 step f i l = put i (f i (walkOf i l)) l

@@ -17,8 +17,11 @@ works s m = record { states = s; matrix = m }
 abbrev pub workOf : ℕ → Works → Work
 workOf i w = work (getD (w .states) i []) (w .matrix)
 
+abbrev pub putWork : ℕ → Work → Works → Works
+putWork i v w = works (set (w .states) i (v .state)) (v .matrix)
+
 abbrev pub inLane : ℕ → (Work → Work) → Works → Works
-inLane i f w = works (set (w .states) i (f (workOf i w) .state)) (f (workOf i w) .matrix)
+inLane i f w = putWork i (f (workOf i w)) w
 
 -- the first row of a lane
 abbrev pub laneStart : ℕ → ℕ → ℕ
