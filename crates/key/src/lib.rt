@@ -33,7 +33,7 @@ pub fn squeeze(s: &mut [u64; 16], key: &mut [u8], mixer: Mixer) -> u64
 }
 
 // The bits in which stored bytes and the key differ, with those of byte i added.
-fn differing(difference: u8, stored: &[u8], i: usize, byte: u8) -> u8
+pub fn differing(difference: u8, stored: &[u8], i: usize, byte: u8) -> u8
     requires { ⌜ i < length (now stored) ⌝ }
     ensures { λ r. ⌜ r ≡ bitOr difference (bitXor (getD (now (stored .entry)) i 0) byte) ⌝ }
 {

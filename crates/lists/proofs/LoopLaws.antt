@@ -35,3 +35,9 @@ module _ {A : Type 0} (f : ℕ → A → A) where
   pub loop-idle : (k n : ℕ) (a : A) → k ≤ n → ((i : ℕ) → k ≤ i → (b : A) → f i b ≡ b) → loop f n a ≡ loop f k a
   loop-idle k zero a le idle = ap (λ (i : ℕ). loop f i a) (omega arith)
   loop-idle k (suc n) a le idle = ⊎-elim (λ eq. ap (λ (i : ℕ). loop f i a) (sym eq)) (λ lt. idle-last k n a (omega arith) idle (loop-idle k n a (omega arith) idle)) (eq-or-lt-of-le le)
+
+-- two loops whose steps are the same
+pub loop-same : {A : Type 0} (f g : ℕ → A → A) (n : ℕ) (a : A) → ((i : ℕ) → i < n → (b : A) → f i b ≡ g i b) → loop f n a ≡ loop g n a
+unfolding loop
+loop-same f g zero a same = refl
+loop-same f g (suc n) a same = same n (omega arith) (loop f n a) ∙ ap (g n) (loop-same f g n a (λ i lt. same i (omega arith)))

@@ -1,0 +1,2 @@
+-- The laws of the key of several lanes.
+pub mod LaneBytes

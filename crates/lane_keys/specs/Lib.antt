@@ -1,0 +1,3 @@
+-- The key of several lanes.
+pub mod LaneKeys
+pub mod Arrived
