@@ -27,17 +27,27 @@ recordedNumber p x matrix visited = first (recordedChecks (lengths x) p (length 
 abbrev pub clearedMatrix : Parameters → Input → List ℕ → List ℕ
 clearedMatrix p x matrix = answered (plainNumber p x matrix) (cleared (matrixWords (settings p)) matrix) matrix
 
--- the plain derivation
-pub record Derived (p : Parameters) (x : Input) (key matrix key′ matrix′ : List ℕ) (r : Costs) : Type 0 where
-  pub answer : r ≡ costAnswer (plainNumber p x matrix) (lengths x) p
-  pub key-after : key′ ≡ answered (plainNumber p x matrix) (keyOf (settings p) x matrix) key
-  pub matrix-after : matrix′ ≡ clearedMatrix p x matrix
+-- a derivation that keeps nothing but the key, and a check of a key, which answers 1 for yes: by the number of the first refusal, the answer,
+-- the key and the words of the used matrix
+pub record DerivedAs (number : ℕ) (a : Costs) (k : List ℕ) (words : ℕ) (key matrix key′ matrix′ : List ℕ) (r : Costs) : Type 0 where
+  pub answer : r ≡ a
+  pub key-after : key′ ≡ answered number k key
+  pub matrix-after : matrix′ ≡ answered number (cleared words matrix) matrix
 
--- a check of a key, which answers 1 for yes, by the number of its first refusal
-pub record ComparedBy (number : ℕ) (p : Parameters) (x : Input) (stored matrix matrix′ : List ℕ) (r : Costs) (same : ℕ) : Type 0 where
-  pub answer : r ≡ costAnswer number (lengths x) p
-  pub same-is : same ≡ answered number (flag (sameBytes stored (keyOf (settings p) x matrix))) 0
-  pub matrix-after : matrix′ ≡ answered number (cleared (matrixWords (settings p)) matrix) matrix
+pub record ComparedAs (number : ℕ) (a : Costs) (k : List ℕ) (words : ℕ) (stored matrix matrix′ : List ℕ) (r : Costs) (same : ℕ) : Type 0 where
+  pub answer : r ≡ a
+  pub same-is : same ≡ answered number (flag (sameBytes stored k)) 0
+  pub matrix-after : matrix′ ≡ answered number (cleared words matrix) matrix
+
+-- the plain derivation
+abbrev pub Derived : Parameters → Input → List ℕ → List ℕ → List ℕ → List ℕ → Costs → Type 0
+Derived p x key matrix =
+    DerivedAs (plainNumber p x matrix) (costAnswer (plainNumber p x matrix) (lengths x) p) (keyOf (settings p) x matrix) (matrixWords (settings p)) key matrix
+
+-- a check by the number of its first refusal
+abbrev pub ComparedBy : ℕ → Parameters → Input → List ℕ → List ℕ → List ℕ → Costs → ℕ → Type 0
+ComparedBy number p x stored matrix =
+    ComparedAs number (costAnswer number (lengths x) p) (keyOf (settings p) x matrix) (matrixWords (settings p)) stored matrix
 
 -- the check of a stored key
 abbrev pub Compared : Parameters → Input → List ℕ → List ℕ → List ℕ → Costs → ℕ → Type 0

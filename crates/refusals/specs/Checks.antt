@@ -1,9 +1,9 @@
 -- The checks by number, and those that each operation has, in its order.
-use Prim.Native.Nat.{ℕ, _-_, _≤_}
+use Prim.Native.Nat.{ℕ, _-_, _/_, _%_, _≤_}
 use mathlib.Core.Bool.{Bool, false, cond, _||_}
 use mathlib.Core.List.{List, [], _∷_, _++_}
 use lib.Dec.{ltb, eqb}
-use Rattle.settings.specs.Settings.{settings}
+use Rattle.settings.specs.Settings.{settings, usual}
 use Rattle.settings.specs.Sizes.{matrixWords, recordWords}
 use Rattle.settings.specs.declared.Parameters.{Parameters}
 use Rattle.settings.specs.declared.StoredParameters.{StoredParameters}
@@ -146,6 +146,19 @@ accountCheck = holds 18
 abbrev pub bookRoomCheck : ℕ → ℕ → Check
 bookRoomCheck = atLeast 19
 
+-- several lanes (request 111): there is a visit; p is within its limits and divides R/2, R is even, and each lane has rows enough
+abbrev pub maxLanes : ℕ
+maxLanes = 8
+
+abbrev pub minLaneRows : ℕ
+minLaneRows = 4
+
+abbrev pub visitsCheck : ℕ → Check
+visitsCheck = range 4 1 maxTime
+
+abbrev pub lanesCheck : ℕ → ℕ → Check
+lanesCheck R p = record { number = 20; bounds = 1 ≤? p ∷ p ≤? maxLanes ∷ (R / 2 % p) ≤? 0 ∷ (R % 2) ≤? 0 ∷ minLaneRows ≤? (R / p) ∷ [] }
+
 -- ---- the operations, each with its checks in their order
 
 -- the lengths, which come first
@@ -176,6 +189,14 @@ recordedChecks l p matrix visited = plainChecks l p matrix ++ (recordCheck p vis
 unfoldable pub storedChecks : ℕ → ℕ → StoredParameters → List Check
 storedChecks key salt p =
     keyCheck key ∷ shortSaltCheck salt ∷ longSaltCheck salt ∷ timeCheck (p .time) ∷ rowsCheck (p .rows) ∷ columnsCheck (p .columns) ∷ []
+
+-- several lanes, of which there are p: the cost question, and then the words of the lent matrix
+unfoldable pub lanesCostChecks : Lengths → StoredParameters → ℕ → List Check
+lanesCostChecks l p lanes =
+    lengthChecks l ++ (visitsCheck (p .time) ∷ rowsCheck (p .rows) ∷ columnsCheck (p .columns) ∷ lanesCheck (p .rows) lanes ∷ [])
+
+unfoldable pub lanesChecks : Lengths → StoredParameters → ℕ → ℕ → List Check
+lanesChecks l p lanes matrix = lanesCostChecks l p lanes ++ (matrixCheck (usual p) matrix ∷ [])
 
 -- the walk question; R alone is what the walk program asks
 unfoldable pub walkChecks : ℕ → ℕ → List Check

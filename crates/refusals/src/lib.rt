@@ -45,6 +45,8 @@ pub const NO_ACCOUNT: u32 = 18;
 
 pub const BOOK_LENGTH: u32 = 19;
 
+pub const LANE_COUNT: u32 = 20;
+
 pub const MAX_KEY: usize = 1024;
 
 pub const MAX_PASSWORD: usize = 1024;
@@ -60,6 +62,10 @@ pub const MIN_ROWS: usize = 3;
 pub const MAX_ROWS: usize = 16384;
 
 pub const MAX_COLUMNS: usize = 256;
+
+pub const MAX_LANES: usize = 8;
+
+pub const MIN_LANE_ROWS: usize = 4;
 
 pub const MAX_ROUNDS: usize = 12;
 
