@@ -47,7 +47,7 @@ module _ (S : Settings) (n col : ℕ) (lt : col < S .columns) where
 
   -- the output and its rotation, XORed into the cell of a row
   module _ (row : ℕ) (inside : row * C + C ≤ n) (m s : List ℕ) where
-    output-within : cleared (12 * n) (zipAt bitXor (12 * (row * C + col)) m (rand s)) ≡ cleared (12 * n) m
+    pub output-within : cleared (12 * n) (zipAt bitXor (12 * (row * C + col)) m (rand s)) ≡ cleared (12 * n) m
     output-within = cell-within bitXor n (row * C + col) m (rand s) (omega arith) (omega (arith, length-rand s))
 
     rotated-within : cleared (12 * n) (zipAt bitXor (12 * (row * C + col)) m (rotated (S .rotation) (rand s))) ≡ cleared (12 * n) m

@@ -1,3 +1,2 @@
--- Bounds of a check one after the other, and what rows for so many lanes are.
+-- The laws of the lanes' check.
 pub mod Bounds
-pub mod Evenly

@@ -1,0 +1,2 @@
+-- A run of several lanes.
+pub mod LaneRuns

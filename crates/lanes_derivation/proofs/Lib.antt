@@ -1,0 +1,4 @@
+-- The laws of a derivation with several lanes.
+pub mod LanesCounted
+pub mod Evenly
+pub mod LanesWithin

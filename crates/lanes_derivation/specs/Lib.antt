@@ -1,0 +1,4 @@
+-- A derivation with several lanes.
+pub mod LanesDerivation
+pub mod LanesCosts
+pub mod LanesContracts
