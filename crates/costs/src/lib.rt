@@ -48,7 +48,7 @@ pub fn full_calls(l: Lengths) -> u64
 }
 
 // The reduced calls of Setup and T rounds of visits over so many cells.
-fn reduced_calls(cells: usize, time: usize) -> usize
+pub fn reduced_calls(cells: usize, time: usize) -> usize
     requires { ⌜ (time ≤ 255) × (cells * (time + 1) < 2 ^ 32) ⌝ }
     ensures { λ r. ⌜ r ≡ cells * (time + 1) ⌝ }
 {

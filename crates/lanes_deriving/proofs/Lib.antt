@@ -1,0 +1,2 @@
+-- What the ends of a run of several lanes give.
+pub mod LanesEnds

@@ -1,0 +1,2 @@
+-- What is done over the lanes' states.
+pub mod Over
