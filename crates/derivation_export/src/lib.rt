@@ -25,9 +25,11 @@ ghost use lib.ListN.{length, drop};
 ghost use Rattle.profile.specs.Profile.{usualRotation};
 ghost use Rattle.packing.specs.Packing.{lowOf, highOf};
 ghost use Rattle.input.specs.Input.{input};
-ghost use Rattle.refusals.specs.Checks.{first, costChecks};
+ghost use Rattle.refusals.specs.Checks.{first, costChecks, lanesCostChecks};
 ghost use Rattle.derivation.specs.Answers.{costAnswer};
 ghost use Rattle.derivation.specs.Contracts.{Derived, Compared, Recorded};
+ghost use Rattle.lanes_derivation.specs.LanesCosts.{lanesAnswer};
+ghost use Rattle.lanes_derivation.specs.LanesContracts.{LanesDerived, LanesCompared};
 ghost use Rattle.choice.specs.Choice.{choiceAnswer};
 ghost use Rattle.walk_question.specs.Question.{walkAnswer};
 ghost use Rattle.line_form.specs.Contracts.{Read, Written};
@@ -132,6 +134,85 @@ pub extern "C" fn lyra2_cost(
         mixer: Mixer::Plain,
     };
     store_costs(costs::cost(l, p), counts)
+}
+
+// The derivation with several lanes: fills the key, and leaves zeros in the used matrix.
+#[no_mangle]
+pub extern "C" fn lyra2_lanes_derive(
+    password: &[u8],
+    salt: &[u8],
+    time: usize,
+    rows: usize,
+    columns: usize,
+    lanes: usize,
+    key: &mut [u8],
+    matrix: &mut [u64],
+    counts: &mut [u64; 3],
+) -> u32
+    ensures { λ r. ⌜ LanesDerived (storedParameters time rows columns) lanes (input (now (password .entry)) (now (salt .entry)) (length (now (key .entry)))) (now (key .entry)) (now (matrix .entry)) (now (key .exit)) (now (matrix .exit)) («counts-stored» r (now (counts .exit))) ⌝ }
+{
+    let p = StoredParameters {
+        time,
+        rows,
+        columns,
+    };
+    store_costs(
+        lanes_deriving::derive_lanes(password, salt, p, lanes, key, matrix),
+        counts,
+    )
+}
+
+// The check with several lanes: `same` becomes 1 where the stored bytes are the key, else 0. The used matrix is left as zeros.
+#[no_mangle]
+pub extern "C" fn lyra2_lanes_check(
+    password: &[u8],
+    salt: &[u8],
+    time: usize,
+    rows: usize,
+    columns: usize,
+    lanes: usize,
+    stored: &[u8],
+    matrix: &mut [u64],
+    same: &mut u32,
+    counts: &mut [u64; 3],
+) -> u32
+    ensures { λ r. ⌜ LanesCompared (storedParameters time rows columns) lanes (input (now (password .entry)) (now (salt .entry)) (length (now (stored .entry)))) (now (stored .entry)) (now (matrix .entry)) (now (matrix .exit)) («counts-stored» r (now (counts .exit))) (now (same .exit)) ⌝ }
+{
+    let p = StoredParameters {
+        time,
+        rows,
+        columns,
+    };
+    let a = lanes_deriving::check_lanes(password, salt, p, lanes, stored, matrix);
+    store_same(a, same);
+    store_costs(a.costs, counts)
+}
+
+// The cost question for several lanes.
+#[no_mangle]
+pub extern "C" fn lyra2_lanes_cost(
+    key: usize,
+    password: usize,
+    salt: usize,
+    time: usize,
+    rows: usize,
+    columns: usize,
+    lanes: usize,
+    counts: &mut [u64; 3],
+) -> u32
+    ensures { λ r. ⌜ «counts-stored» r (now (counts .exit)) ≡ lanesAnswer (first (lanesCostChecks (lengthsOf key password salt) (storedParameters time rows columns) lanes)) (lengthsOf key password salt) (storedParameters time rows columns) lanes ⌝ }
+{
+    let l = Lengths {
+        key,
+        password,
+        salt,
+    };
+    let p = StoredParameters {
+        time,
+        rows,
+        columns,
+    };
+    store_costs(lanes_deriving::cost_lanes(l, p, lanes), counts)
 }
 
 // The choice of costs: T, R, C and the shortfall are stored.
