@@ -73,6 +73,50 @@ extern "C" {
         counts: *mut [u64; 3],
     ) -> u32;
 
+    pub fn lyra2_lanes_derive(
+        password: *const u8,
+        password_len: usize,
+        salt: *const u8,
+        salt_len: usize,
+        time: usize,
+        rows: usize,
+        columns: usize,
+        lanes: usize,
+        key: *mut u8,
+        key_len: usize,
+        matrix: *mut u64,
+        matrix_len: usize,
+        counts: *mut [u64; 3],
+    ) -> u32;
+
+    pub fn lyra2_lanes_check(
+        password: *const u8,
+        password_len: usize,
+        salt: *const u8,
+        salt_len: usize,
+        time: usize,
+        rows: usize,
+        columns: usize,
+        lanes: usize,
+        stored: *const u8,
+        stored_len: usize,
+        matrix: *mut u64,
+        matrix_len: usize,
+        same: *mut u32,
+        counts: *mut [u64; 3],
+    ) -> u32;
+
+    pub fn lyra2_lanes_cost(
+        key_len: usize,
+        password_len: usize,
+        salt_len: usize,
+        time: usize,
+        rows: usize,
+        columns: usize,
+        lanes: usize,
+        counts: *mut [u64; 3],
+    ) -> u32;
+
     pub fn lyra2_choose(
         key: usize,
         password: usize,

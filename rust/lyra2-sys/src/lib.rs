@@ -197,6 +197,117 @@ pub fn cost(sizes: Sizes, counts: &mut Counts) -> u32 {
     }
 }
 
+/// What a derivation with several lanes is made from, apart from the lent buffers.
+#[derive(Clone, Copy)]
+pub struct LanesInput<'a> {
+    /// The password.
+    pub password: &'a [u8],
+    /// The salt.
+    pub salt: &'a [u8],
+    /// The time cost T.
+    pub time: usize,
+    /// The number of rows R, those of all lanes together.
+    pub rows: usize,
+    /// The number of columns C.
+    pub columns: usize,
+    /// The number of lanes, p.
+    pub lanes: usize,
+}
+
+/// The seven numbers that the cost question for lanes is about.
+#[derive(Clone, Copy, Debug)]
+pub struct LanesSizes {
+    /// Key length in bytes.
+    pub key: usize,
+    /// Password length in bytes.
+    pub password: usize,
+    /// Salt length in bytes.
+    pub salt: usize,
+    /// The time cost T.
+    pub time: usize,
+    /// The number of rows R, those of all lanes together.
+    pub rows: usize,
+    /// The number of columns C.
+    pub columns: usize,
+    /// The number of lanes, p.
+    pub lanes: usize,
+}
+
+/// The derivation with several lanes: fills the key, and leaves zeros in the used matrix.
+pub fn lanes_derive(
+    input: LanesInput,
+    key: &mut [u8],
+    matrix: &mut [u64],
+    counts: &mut Counts,
+) -> u32 {
+    // SAFETY: each pointer comes from a slice and goes with that slice's length, `counts` has the three words
+    // that the call may write, and key, matrix and counts are borrowed by this call alone.
+    unsafe {
+        foreign::lyra2_lanes_derive(
+            input.password.as_ptr(),
+            input.password.len(),
+            input.salt.as_ptr(),
+            input.salt.len(),
+            input.time,
+            input.rows,
+            input.columns,
+            input.lanes,
+            key.as_mut_ptr(),
+            key.len(),
+            matrix.as_mut_ptr(),
+            matrix.len(),
+            counts,
+        )
+    }
+}
+
+/// The check with several lanes: `same` becomes 1 if the stored bytes are the key, else 0; refused, it becomes 0. The
+/// used matrix ends as zeros.
+pub fn lanes_check(
+    input: LanesInput,
+    stored: &[u8],
+    matrix: &mut [u64],
+    same: &mut u32,
+    counts: &mut Counts,
+) -> u32 {
+    // SAFETY: as in the derivation; the stored key goes with its length and is only read.
+    unsafe {
+        foreign::lyra2_lanes_check(
+            input.password.as_ptr(),
+            input.password.len(),
+            input.salt.as_ptr(),
+            input.salt.len(),
+            input.time,
+            input.rows,
+            input.columns,
+            input.lanes,
+            stored.as_ptr(),
+            stored.len(),
+            matrix.as_mut_ptr(),
+            matrix.len(),
+            same,
+            counts,
+        )
+    }
+}
+
+/// The cost question for several lanes.
+pub fn lanes_cost(sizes: LanesSizes, counts: &mut Counts) -> u32 {
+    // SAFETY: the pointer is to three words that this call alone borrows; the rest are numbers.
+    unsafe {
+        foreign::lyra2_lanes_cost(
+            sizes.key,
+            sizes.password,
+            sizes.salt,
+            sizes.time,
+            sizes.rows,
+            sizes.columns,
+            sizes.lanes,
+            counts,
+        )
+    }
+}
+
 /// The choice of costs: `values` becomes T, R, C and the shortfall, all 0 where the call is refused.
 pub fn choose(limits: Limits, values: &mut ChoiceValues) -> u32 {
     // SAFETY: the pointer is to four numbers that this call alone borrows; the rest are numbers.
