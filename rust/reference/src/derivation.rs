@@ -135,8 +135,8 @@ fn run(
     Recorded { state, counts }
 }
 
-/// Line 35: a full call stands between two pieces of the key, and none before or after them.
-fn squeeze(sponge: &mut Sponge, key: &mut [u8]) {
+/// Line 35, of Algorithm 3 line 40: a full call stands between two pieces of the key, and none before or after them.
+pub(crate) fn squeeze(sponge: &mut Sponge, key: &mut [u8]) {
     for (number, piece) in key.chunks_mut(PIECE_BYTES).enumerate() {
         if number > 0 {
             sponge.full_call();
@@ -147,7 +147,7 @@ fn squeeze(sponge: &mut Sponge, key: &mut [u8]) {
 }
 
 /// Compares without an early end, so that the time tells nothing of the first difference.
-fn equal(key: &[u8], stored: &[u8]) -> bool {
+pub(crate) fn equal(key: &[u8], stored: &[u8]) -> bool {
     let differences = key
         .iter()
         .zip(stored)

@@ -1,11 +1,14 @@
-//! The padded input: password, salt and the six numbers, cut into blocks (Algorithm 2, lines 1 to 3).
+//! The padded input: password, salt and the numbers, cut into blocks (Algorithm 2, lines 1 to 3; Algorithm 3, lines 3 and 4).
 
 use crate::sponge::{Sponge, BLOCK_WORDS, CELL_WORDS};
 
 /// Bytes of an input block.
 pub const BLOCK_BYTES: usize = 8 * BLOCK_WORDS;
 
-/// The six numbers that close the input, in their order there (params in the pseudocode).
+/// Bytes of each number in the input.
+pub const NUMBER_BYTES: u64 = 4;
+
+/// The six numbers that close the input, in their order there (params in the pseudocode). The input of a lane has two more.
 #[derive(Clone, Copy, Debug, PartialEq, Eq)]
 pub struct Parameters {
     /// Key length in bytes.
@@ -36,27 +39,42 @@ impl Parameters {
         visits.saturating_mul(words_per_visit)
     }
 
-    /// The six numbers as bytes. Each is within the limits of the refusals, so four bytes hold it.
-    fn bytes(&self) -> [u8; 24] {
-        let numbers = [
+    /// The six numbers in their order.
+    fn numbers(&self) -> [u64; 6] {
+        [
             self.key_len,
             self.password_len,
             self.salt_len,
             self.t,
             self.r,
             self.c,
-        ];
-        let mut bytes = [0; 24];
-        for (place, number) in bytes.chunks_exact_mut(4).zip(numbers) {
-            place.copy_from_slice(&number.to_le_bytes()[..4]);
-        }
-        bytes
+        ]
     }
 }
 
 /// The input with its padding, for parameters that no check refuses.
 pub fn padded_input(password: &[u8], salt: &[u8], parameters: &Parameters) -> Vec<u8> {
-    let mut input = [password, salt, &parameters.bytes()].concat();
+    padded(password, salt, &parameters.numbers())
+}
+
+/// The same of lane i of p: the two numbers follow the six.
+pub fn padded_lane_input(
+    password: &[u8],
+    salt: &[u8],
+    parameters: &Parameters,
+    p: u64,
+    i: u64,
+) -> Vec<u8> {
+    let numbers = [&parameters.numbers()[..], &[p, i]].concat();
+    padded(password, salt, &numbers)
+}
+
+/// Each number is within the limits of the refusals, so that four bytes hold it.
+fn padded(password: &[u8], salt: &[u8], numbers: &[u64]) -> Vec<u8> {
+    let mut input = [password, salt].concat();
+    for number in numbers {
+        input.extend(&number.to_le_bytes()[..NUMBER_BYTES as usize]);
+    }
     let unpadded = input.len();
     // One past the last full block: an input that fills its block gets a whole block of padding.
     let padded = (unpadded / BLOCK_BYTES + 1) * BLOCK_BYTES;

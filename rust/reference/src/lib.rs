@@ -1,4 +1,4 @@
-//! A second Lyra2, made from Algorithm 2 of the reference guide and from documents 01 and 02 alone.
+//! A second Lyra2, made from Algorithms 2 and 3 of the reference guide and from documents 01 and 02 alone.
 //!
 //! It shares no code with the product, so that where the two agree, a slip common to both is unlikely.
 //! Clarity comes before speed: each phase of the algorithm has a file of its own, in the order of the
@@ -12,6 +12,9 @@
 //! | `setup` | 6 to 15 |
 //! | `visits` | 22 to 32 |
 //! | `derivation` | 33 to 36, and the operations open to callers |
+//!
+//! With several lanes (request #111) it is Algorithm 3: `lane` has what one of them does, lines 5 to 40, by the same rows and
+//! columns as `setup`, and `lanes` who goes when, line 42 and the operations.
 //!
 //! `line` reads and writes the login lines of request #105, `record` has the words in which the visits are noted down,
 //! `choice` chooses T, R and C by the cost question (request #109), with `search` to hold it against, and `book` keeps accounts,
@@ -43,6 +46,8 @@ pub mod choice;
 pub mod cost;
 pub mod derivation;
 pub mod input;
+mod lane;
+pub mod lanes;
 pub mod line;
 mod matrix;
 pub mod record;
@@ -58,9 +63,10 @@ pub mod walk;
 pub use account::{Account, AccountValues};
 pub use book::{book_account, book_add, book_check, book_find, book_remove};
 pub use choice::{choose, Choice, Limits};
-pub use cost::cost;
+pub use cost::{cost, lanes_cost};
 pub use derivation::{check, derive, derive_recorded, Checked, Inputs, Recorded};
 pub use input::Parameters;
+pub use lanes::{lanes_check, lanes_derive, LaneInputs};
 pub use line::{line_read, line_write, LineParts, LineValues};
 pub use refusal::Refusal;
 pub use settings::{Mixer, Settings};

@@ -14,6 +14,8 @@ pub const PASSWORD_LENGTHS: RangeInclusive<u64> = 0..=1024;
 pub const SALT_LENGTHS: RangeInclusive<u64> = 8..=64;
 /// Values of T that are accepted.
 pub const TIME_COSTS: RangeInclusive<u64> = 0..=255;
+/// Values of T that are accepted with lanes, each of which makes a visit at least.
+pub const LANE_TIME_COSTS: RangeInclusive<u64> = 1..=255;
 /// Values of R that are accepted.
 pub const ROWS: RangeInclusive<u64> = 3..=16_384;
 /// Values of C that are accepted.
@@ -22,6 +24,11 @@ pub const COLUMNS: RangeInclusive<u64> = 1..=256;
 pub const ROUNDS: RangeInclusive<u64> = 1..=12;
 /// Values of ω that are accepted.
 pub const ROTATIONS: RangeInclusive<u64> = 1..=11;
+
+/// Numbers of lanes that are accepted, p.
+pub const LANES: RangeInclusive<u64> = 1..=8;
+/// The fewest rows of a lane.
+pub const FEWEST_LANE_ROWS: u64 = 4;
 
 /// Makes the refusals from a list that has each of them once, in the order of the numbers: its meaning, its
 /// name, its number and its sentence.
@@ -55,8 +62,8 @@ refusals! {
     PasswordLength = 2, "the password must be at most 1024 bytes long";
     /// The salt is too short.
     SaltTooShort = 3, "the salt must be at least 8 bytes long";
-    /// T is above its limit.
-    TimeCost = 4, "T must be at most 255";
+    /// T is above its limit, or 0 with lanes.
+    TimeCost = 4, "T must be at most 255, and with lanes at least 1";
     /// R is outside its limits.
     Rows = 5, "R must be 3 to 16384";
     /// C is outside its limits.
@@ -87,6 +94,8 @@ refusals! {
     NoAccount = 18, "the book must have an account of the number";
     /// The book has no room for the account that is to be added.
     BookTooShort = 19, "the book must have room for the accounts";
+    /// The number of lanes is outside its limits, or R does not give each of them an even number of rows, and enough.
+    Lanes = 20, "R must be 1 to 8 lanes of an even number of rows, at least 4";
 }
 
 impl Refusal {
@@ -212,6 +221,31 @@ pub const BOOK_CHECK_CHECKS: &[Refusal] = &[
     Refusal::MatrixWords,
 ];
 
+/// The checks of the derivation with lanes and of the check with lanes.
+pub const LANES_CHECKS: &[Refusal] = &[
+    Refusal::KeyLength,
+    Refusal::PasswordLength,
+    Refusal::SaltTooShort,
+    Refusal::SaltTooLong,
+    Refusal::TimeCost,
+    Refusal::Rows,
+    Refusal::Columns,
+    Refusal::Lanes,
+    Refusal::MatrixWords,
+];
+
+/// The checks of the cost question for lanes.
+pub const LANES_COST_CHECKS: &[Refusal] = &[
+    Refusal::KeyLength,
+    Refusal::PasswordLength,
+    Refusal::SaltTooShort,
+    Refusal::SaltTooLong,
+    Refusal::TimeCost,
+    Refusal::Rows,
+    Refusal::Columns,
+    Refusal::Lanes,
+];
+
 /// Refuses unless the condition holds.
 fn demand(holds: bool, refusal: Refusal) -> Result<(), Refusal> {
     if holds {
@@ -238,8 +272,13 @@ fn check_lengths(key_len: u64, password_len: u64, salt_len: u64) -> Result<(), R
 
 /// The six numbers of the input against their limits.
 pub fn check_parameters(given: &Parameters) -> Result<(), Refusal> {
+    check_numbers(given, TIME_COSTS)
+}
+
+/// The same with these values of T.
+fn check_numbers(given: &Parameters, time_costs: RangeInclusive<u64>) -> Result<(), Refusal> {
     check_lengths(given.key_len, given.password_len, given.salt_len)?;
-    demand(TIME_COSTS.contains(&given.t), Refusal::TimeCost)?;
+    demand(time_costs.contains(&given.t), Refusal::TimeCost)?;
     demand(ROWS.contains(&given.r), Refusal::Rows)?;
     demand(COLUMNS.contains(&given.c), Refusal::Columns)
 }
@@ -254,8 +293,31 @@ pub fn check_cost(given: &Parameters, rho: u64) -> Result<(), Refusal> {
 pub fn check_matrix(given: &Parameters, settings: Settings, matrix: &[u64]) -> Result<(), Refusal> {
     check_cost(given, settings.rho)?;
     demand(ROTATIONS.contains(&settings.omega), Refusal::Rotation)?;
+    check_room(given, matrix)
+}
+
+/// The words of a lent matrix against those that are used.
+fn check_room(given: &Parameters, matrix: &[u64]) -> Result<(), Refusal> {
     let enough = matrix.len() as u64 >= given.matrix_words();
     demand(enough, Refusal::MatrixWords)
+}
+
+/// Whether r rows can be p lanes: of equally many rows, which make two halves, and enough of them. An even number of rows in
+/// each lane is what it means that p divides half of R.
+fn are_lanes(r: u64, p: u64) -> bool {
+    LANES.contains(&p) && r % 2 == 0 && (r / 2) % p == 0 && r / p >= FEWEST_LANE_ROWS
+}
+
+/// The checks of the cost question for lanes: the six numbers, then p.
+pub fn check_lanes_cost(given: &Parameters, p: u64) -> Result<(), Refusal> {
+    check_numbers(given, LANE_TIME_COSTS)?;
+    demand(are_lanes(given.r, p), Refusal::Lanes)
+}
+
+/// The checks of the derivation with lanes and of the check with lanes: those of the cost question, then the matrix.
+pub fn check_lanes(given: &Parameters, p: u64, matrix: &[u64]) -> Result<(), Refusal> {
+    check_lanes_cost(given, p)?;
+    check_room(given, matrix)
 }
 
 /// The checks of the recorded derivation: those of the plain one, then the record.

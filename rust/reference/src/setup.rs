@@ -1,32 +1,52 @@
 //! The Setup phase: every row of the matrix is filled once (Algorithm 2, lines 6 to 21).
+//!
+//! A lane fills its rows by the same rules (Algorithm 3, lines 8 to 16), so that a row is here one of the whole matrix.
 
 use crate::matrix::{rot, sum, xor, Matrix, Row};
 use crate::sponge::Sponge;
 use crate::walk::{SetupWalk, FIRST_STEP};
 
+/// The rows of a Setup step.
+pub struct StepRows {
+    /// The row to fill.
+    pub row0: Row,
+    /// The row filled last.
+    pub prev0: Row,
+    /// The row to revisit.
+    pub row1: Row,
+    /// The row revisited last.
+    pub prev1: Row,
+}
+
 /// Fills the matrix and returns the walk as the last step leaves it; the rotation is by ω words.
 pub fn setup(sponge: &mut Sponge, matrix: &mut Matrix, omega: usize) -> SetupWalk {
-    fill_row_0(sponge, matrix);
+    fill_first(sponge, matrix, Row(0));
     fill_from(sponge, matrix, Row(0), Row(1));
     fill_from(sponge, matrix, Row(1), Row(2));
     let mut walk = SetupWalk::start();
     for row0 in FIRST_STEP..matrix.rows() {
-        fill_and_revisit(sponge, matrix, Row(row0), &walk, omega);
+        let rows = StepRows {
+            row0: Row(row0),
+            prev0: walk.prev0(),
+            row1: walk.row1(),
+            prev1: walk.prev1(),
+        };
+        fill_and_revisit(sponge, matrix, &rows, omega);
         walk.advance(row0);
     }
     walk
 }
 
-/// Line 7.
-fn fill_row_0(sponge: &mut Sponge, matrix: &mut Matrix) {
+/// Line 7, of Algorithm 3 line 8: the sponge's first row.
+pub fn fill_first(sponge: &mut Sponge, matrix: &mut Matrix, row0: Row) {
     for col in matrix.columns() {
-        matrix.write(Row(0), matrix.mirrored(col), &sponge.rand());
+        matrix.write(row0, matrix.mirrored(col), &sponge.rand());
         sponge.reduced_call();
     }
 }
 
-/// Lines 8 and 9, which differ in their rows alone.
-fn fill_from(sponge: &mut Sponge, matrix: &mut Matrix, prev0: Row, row0: Row) {
+/// Lines 8 and 9, of Algorithm 3 lines 9 and 10, which differ in their rows alone.
+pub fn fill_from(sponge: &mut Sponge, matrix: &mut Matrix, prev0: Row, row0: Row) {
     for col in matrix.columns() {
         let cell = matrix.cell(prev0, col);
         let rand = sponge.duplex(&cell);
@@ -34,21 +54,14 @@ fn fill_from(sponge: &mut Sponge, matrix: &mut Matrix, prev0: Row, row0: Row) {
     }
 }
 
-/// Lines 11 to 15.
-fn fill_and_revisit(
-    sponge: &mut Sponge,
-    matrix: &mut Matrix,
-    row0: Row,
-    walk: &SetupWalk,
-    omega: usize,
-) {
-    let (row1, prev0, prev1) = (walk.row1(), walk.prev0(), walk.prev1());
+/// Lines 11 to 15, of Algorithm 3 lines 12 to 16.
+pub fn fill_and_revisit(sponge: &mut Sponge, matrix: &mut Matrix, rows: &StepRows, omega: usize) {
     for col in matrix.columns() {
-        let previous = matrix.cell(prev0, col);
-        let two = sum(&matrix.cell(row1, col), &previous);
-        let three = sum(&two, &matrix.cell(prev1, col));
+        let previous = matrix.cell(rows.prev0, col);
+        let two = sum(&matrix.cell(rows.row1, col), &previous);
+        let three = sum(&two, &matrix.cell(rows.prev1, col));
         let rand = sponge.duplex(&three);
-        matrix.write(row0, matrix.mirrored(col), &xor(&previous, &rand));
-        matrix.xor_into(row1, col, &rot(&rand, omega));
+        matrix.write(rows.row0, matrix.mirrored(col), &xor(&previous, &rand));
+        matrix.xor_into(rows.row1, col, &rot(&rand, omega));
     }
 }

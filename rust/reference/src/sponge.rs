@@ -91,6 +91,17 @@ pub struct Counts {
     pub rounds: u64,
 }
 
+/// What several sponges spend together.
+impl std::iter::Sum for Counts {
+    fn sum<I: Iterator<Item = Counts>>(all: I) -> Counts {
+        all.fold(Counts::default(), |x, y| Counts {
+            full: x.full + y.full,
+            reduced: x.reduced + y.reduced,
+            rounds: x.rounds + y.rounds,
+        })
+    }
+}
+
 /// A state together with the count of the calls that were made on it.
 #[derive(Clone, Debug)]
 pub struct Sponge {

@@ -1,4 +1,5 @@
-//! The Setup walk: which row each Setup step revisits (Algorithm 2, lines 4, 5 and 16 to 20).
+//! The Setup walk: which row each Setup step revisits (Algorithm 2, lines 4, 5 and 16 to 20; a lane's is the same, Algorithm 3,
+//! lines 5, 6 and 17 to 21).
 
 use crate::matrix::Row;
 use crate::refusal::{self, Refusal};
@@ -65,6 +66,11 @@ impl SetupWalk {
     /// The step between revisited rows.
     pub fn stp(&self) -> usize {
         self.stp
+    }
+
+    /// The variable after which the step and, in Algorithm 3, the distance of two meetings go.
+    pub fn sqrt(&self) -> usize {
+        self.sqrt
     }
 
     /// The size of the window that the revisited rows come from.

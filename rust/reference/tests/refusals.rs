@@ -2,8 +2,8 @@
 
 use lyra2_reference::refusal::{
     Refusal, BOOK_ADD_CHECKS, BOOK_CHECK_CHECKS, BOOK_FIND_CHECKS, CHOICE_CHECKS, COST_CHECKS,
-    LINE_READ_CHECKS, LINE_WRITE_CHECKS, PLAIN_CHECKS, RECORDED_CHECKS, ROTATIONS, ROUNDS,
-    WALK_CHECKS,
+    LANES_CHECKS, LANES_COST_CHECKS, LINE_READ_CHECKS, LINE_WRITE_CHECKS, PLAIN_CHECKS,
+    RECORDED_CHECKS, ROTATIONS, ROUNDS, WALK_CHECKS,
 };
 use lyra2_reference::{
     check, cost, derive, derive_recorded, walk, Inputs, Mixer, Parameters, Settings,
@@ -252,7 +252,8 @@ fn make_hold(call: &mut Call, check: Refusal, high: bool) {
         | Refusal::NothingFits
         | Refusal::DamagedBook
         | Refusal::NoAccount
-        | Refusal::BookTooShort => panic!("none of the four operations has this check"),
+        | Refusal::BookTooShort
+        | Refusal::Lanes => panic!("none of the four operations has this check"),
     }
 }
 
@@ -397,6 +398,8 @@ fn orders_of_the_checks() {
     assert_eq!(numbers(BOOK_ADD_CHECKS), [1, 3, 10, 4, 5, 6, 17, 19]);
     assert_eq!(numbers(BOOK_CHECK_CHECKS), [2, 17, 18, 7]);
     assert_eq!(numbers(WALK_CHECKS), [5, 9]);
+    assert_eq!(numbers(LANES_CHECKS), [1, 2, 3, 10, 4, 5, 6, 20, 7]);
+    assert_eq!(numbers(LANES_COST_CHECKS), [1, 2, 3, 10, 4, 5, 6, 20]);
 }
 
 #[test]
@@ -412,6 +415,8 @@ fn every_refusal_is_a_check_of_some_operation() {
         BOOK_FIND_CHECKS,
         BOOK_ADD_CHECKS,
         BOOK_CHECK_CHECKS,
+        LANES_CHECKS,
+        LANES_COST_CHECKS,
     ];
     let made: BTreeSet<_> = numbers(&orders.concat()).into_iter().collect();
     assert_eq!(made, numbers(Refusal::ALL).into_iter().collect());
@@ -419,7 +424,7 @@ fn every_refusal_is_a_check_of_some_operation() {
 
 #[test]
 fn numbers_and_sentences() {
-    let all: Vec<u8> = (1..=19).collect();
+    let all: Vec<u8> = (1..=20).collect();
     assert_eq!(numbers(Refusal::ALL), all);
     let mut sentences = BTreeSet::new();
     for refusal in Refusal::ALL {
@@ -430,5 +435,5 @@ fn numbers_and_sentences() {
         assert!(sentences.insert(refusal.to_string()), "{refusal}");
     }
     assert_eq!(Refusal::from_number(0), None);
-    assert_eq!(Refusal::from_number(20), None);
+    assert_eq!(Refusal::from_number(21), None);
 }

@@ -246,7 +246,8 @@ fn holds(check: Refusal, question: &Question) -> bool {
         | Refusal::NothingFits
         | Refusal::DamagedBook
         | Refusal::NoAccount
-        | Refusal::BookTooShort => false,
+        | Refusal::BookTooShort
+        | Refusal::Lanes => false,
     }
 }
 
