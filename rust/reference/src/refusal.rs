@@ -302,10 +302,10 @@ fn check_room(given: &Parameters, matrix: &[u64]) -> Result<(), Refusal> {
     demand(enough, Refusal::MatrixWords)
 }
 
-/// Whether r rows can be p lanes: of equally many rows, which make two halves, and enough of them. An even number of rows in
-/// each lane is what it means that p divides half of R.
+/// Whether r rows can be p lanes: p divides half of r, so that each lane has two halves of its own, and they are long enough.
 fn are_lanes(r: u64, p: u64) -> bool {
-    LANES.contains(&p) && r % 2 == 0 && (r / 2) % p == 0 && r / p >= FEWEST_LANE_ROWS
+    let halves = r.is_multiple_of(2) && (r / 2).is_multiple_of(p);
+    LANES.contains(&p) && halves && r / p >= FEWEST_LANE_ROWS
 }
 
 /// The checks of the cost question for lanes: the six numbers, then p.

@@ -1,5 +1,5 @@
 //! Faulty programs, made on purpose: the run of the vectors file has to notice every fault. Those of the login lines, of
-//! the record's form, of the choice of costs and of the book of accounts stand in files of their own.
+//! the record's form, of the choice of costs, of the book of accounts and of the lanes stand in files of their own.
 
 mod common;
 
@@ -9,8 +9,8 @@ use lyra2_reference::refusal::{
 };
 use lyra2_reference::vectors::{run, write, Answer, Case, Coverage, Question, Reference, Subject};
 use lyra2_reference::{
-    Account, AccountValues, Checked, Choice, Counts, Inputs, Limits, LineParts, LineValues, Mixer,
-    Parameters, Recorded, Refusal, Settings,
+    Account, AccountValues, Checked, Choice, Counts, Inputs, LaneInputs, Limits, LineParts,
+    LineValues, Mixer, Parameters, Recorded, Refusal, Settings,
 };
 
 #[derive(Clone, Copy, Debug, PartialEq, Eq)]
@@ -204,6 +204,28 @@ impl Subject for Faulty {
     fn book_account(&self, used_part: &[u8], place: u64) -> Option<AccountValues> {
         Reference.book_account(used_part, place)
     }
+
+    fn lanes_derive(
+        &self,
+        inputs: &LaneInputs,
+        key: &mut [u8],
+        matrix: &mut [u64],
+    ) -> Option<Result<Counts, Refusal>> {
+        Reference.lanes_derive(inputs, key, matrix)
+    }
+
+    fn lanes_check(
+        &self,
+        inputs: &LaneInputs,
+        stored: &[u8],
+        matrix: &mut [u64],
+    ) -> Option<Result<Checked, Refusal>> {
+        Reference.lanes_check(inputs, stored, matrix)
+    }
+
+    fn lanes_cost(&self, given: &Parameters, p: u64) -> Option<Result<Counts, Refusal>> {
+        Reference.lanes_cost(given, p)
+    }
 }
 
 /// The cases with buffers small enough to be asked over and over.
@@ -258,7 +280,8 @@ fn no_fault_is_noticed_where_there_is_none() {
     }
 }
 
-/// A faulty program without the recorded derivation, the walk program, the login lines, the choice of costs and the book.
+/// A faulty program without the recorded derivation, the walk program, the login lines, the choice of costs, the book and the
+/// lanes.
 struct Partial(Faulty);
 
 impl Subject for Partial {
@@ -355,7 +378,10 @@ fn a_partial_program_is_held_against_what_it_has() {
                 | Question::BookAdd { .. }
                 | Question::BookRemove { .. }
                 | Question::BookCheck { .. }
-                | Question::BookAccount { .. },
+                | Question::BookAccount { .. }
+                | Question::LanesDerive { .. }
+                | Question::LanesCheck { .. }
+                | Question::LanesCost { .. },
                 _,
             ) => Coverage::Nothing,
             (Question::DeriveRecorded { .. } | Question::Choose { .. }, _) => Coverage::SharedPart,

@@ -26,6 +26,7 @@ fn is_small(question: &Question) -> bool {
         Question::DeriveRecorded { given, .. }
         | Question::Derive { given, .. }
         | Question::Check { given, .. } => given.matrix_words < 1_000_000,
+        // Those with lanes lend 196,608 words at most.
         _ => true,
     }
 }
@@ -144,7 +145,7 @@ fn every_operation_has_each_of_its_refusals() {
             found.entry(op).or_default().insert(refusal.number());
         }
     }
-    let expected: [(&str, BTreeSet<u8>); 12] = [
+    let expected: [(&str, BTreeSet<u8>); 15] = [
         (
             "derive_recorded",
             [1, 2, 3, 4, 5, 6, 7, 8, 10, 13, 14].into(),
@@ -160,6 +161,9 @@ fn every_operation_has_each_of_its_refusals() {
         ("book_add", [1, 3, 4, 5, 6, 10, 17, 19].into()),
         ("book_remove", [17, 18].into()),
         ("book_check", [2, 7, 17, 18].into()),
+        ("lanes_derive", [1, 2, 3, 4, 5, 6, 7, 10, 20].into()),
+        ("lanes_check", [1, 2, 3, 4, 5, 6, 7, 10, 20].into()),
+        ("lanes_cost", [1, 2, 3, 4, 5, 6, 10, 20].into()),
     ];
     assert_eq!(found, expected.into());
 }
@@ -183,7 +187,7 @@ impl Asked {
     }
 }
 
-/// The walk has other numbers, and the login lines, the choices and the books have tests of their own.
+/// The walk has other numbers, and the login lines, the choices, the books and the lanes have tests of their own.
 fn asked(question: &Question) -> Option<Asked> {
     Some(match question {
         Question::DeriveRecorded {
@@ -215,7 +219,10 @@ fn asked(question: &Question) -> Option<Asked> {
         | Question::BookAdd { .. }
         | Question::BookRemove { .. }
         | Question::BookCheck { .. }
-        | Question::BookAccount { .. } => return None,
+        | Question::BookAccount { .. }
+        | Question::LanesDerive { .. }
+        | Question::LanesCheck { .. }
+        | Question::LanesCost { .. } => return None,
     })
 }
 
@@ -251,7 +258,7 @@ fn holds(check: Refusal, question: &Question) -> bool {
     }
 }
 
-/// The cases of the operations other than the walk, the login lines, the choice and the books, by operation.
+/// The cases of the operations other than the walk, the login lines, the choice, the books and the lanes, by operation.
 fn cases_by_operation() -> BTreeMap<&'static str, Vec<Case>> {
     let mut cases_of: BTreeMap<_, Vec<Case>> = BTreeMap::new();
     for (_, case) in common::cases() {

@@ -38,15 +38,15 @@ fn unnamed(question: &Question) -> Question {
     question
 }
 
-/// A choice always has its ρ, which is no setting of a derivation there, and a book has no settings.
-fn is_choice_or_book(case: &Case) -> bool {
+/// A choice always has its ρ, which is no setting of a derivation there; books and lanes have no settings.
+fn has_no_settings(case: &Case) -> bool {
     let op = write::op(&case.question);
-    op == "choose" || op.starts_with("book_")
+    op == "choose" || op.starts_with("book_") || op.starts_with("lanes_")
 }
 
 #[test]
 fn settings_are_named_from_request_106_on() {
-    for case in cases().into_iter().filter(|case| !is_choice_or_book(case)) {
+    for case in cases().into_iter().filter(|case| !has_no_settings(case)) {
         let is_named = unnamed(&case.question) != case.question;
         let is_new = case.number >= FIRST_WITH_SETTINGS;
         assert_eq!(is_named, is_new, "case {}", case.number);
@@ -242,7 +242,7 @@ fn counts(answer: &Answer) -> Option<Counts> {
 
 #[test]
 fn the_mixer_is_named_from_request_107_on() {
-    for case in cases().into_iter().filter(|case| !is_choice_or_book(case)) {
+    for case in cases().into_iter().filter(|case| !has_no_settings(case)) {
         let is_new = case.number >= FIRST_WITH_MIXER;
         assert_eq!(named_mixer(&case).is_some(), is_new, "case {}", case.number);
     }

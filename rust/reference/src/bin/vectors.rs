@@ -4,7 +4,8 @@
 
 use lyra2_reference::vectors::random::{self, Random};
 use lyra2_reference::vectors::{
-    chosen_text, random_book, random_choice, random_line, read, run, write, Answer, Reference,
+    chosen_text, random_book, random_choice, random_lanes, random_line, read, run, write, Answer,
+    Reference,
 };
 use std::ffi::OsString;
 use std::fs::OpenOptions;
@@ -85,12 +86,13 @@ fn run_random(seed: u64, count: u64) -> Result<String, String> {
     let mut random = Random::new(seed);
     let (mut accepted, mut refused) = (0u64, 0u64);
     for place in 1..=count {
-        // Derivations, login lines, choices of costs and books in turn.
-        let question = match place % 4 {
+        // Derivations, login lines, choices of costs, books and lanes in turn.
+        let question = match place % 5 {
             1 => random::question(&mut random),
             2 => random_line::question(&mut random),
             3 => random_choice::question(&mut random),
-            _ => random_book::question(&mut random),
+            4 => random_book::question(&mut random),
+            _ => random_lanes::question(&mut random),
         };
         let outcome = run::ask(&Reference, &question).and_then(|answer| {
             run::agree(&Reference, &question, &answer)?;

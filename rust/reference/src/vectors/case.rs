@@ -5,7 +5,8 @@ use crate::choice::{Choice, Limits};
 use crate::input::Parameters;
 use crate::refusal::{
     Refusal, BOOK_ADD_CHECKS, BOOK_CHECK_CHECKS, BOOK_FIND_CHECKS, CHOICE_CHECKS, COST_CHECKS,
-    LINE_READ_CHECKS, LINE_WRITE_CHECKS, PLAIN_CHECKS, RECORDED_CHECKS, WALK_CHECKS,
+    LANES_CHECKS, LANES_COST_CHECKS, LINE_READ_CHECKS, LINE_WRITE_CHECKS, PLAIN_CHECKS,
+    RECORDED_CHECKS, WALK_CHECKS,
 };
 use crate::settings::{Mixer, Settings};
 use crate::sponge::{Counts, State};
@@ -73,6 +74,39 @@ impl Given {
     pub fn settings(&self) -> Settings {
         self.settings
             .map_or(Settings::USUAL, |named| named.settings())
+    }
+}
+
+/// What the derivation and the check with lanes are given.
+#[derive(Clone, Debug, PartialEq, Eq)]
+pub struct LanesGiven {
+    /// The password.
+    pub password: Bytes,
+    /// The salt.
+    pub salt: Bytes,
+    /// The time cost T.
+    pub t: u64,
+    /// The number of rows R, those of all lanes together.
+    pub r: u64,
+    /// The number of columns C.
+    pub c: u64,
+    /// The number of lanes p.
+    pub p: u64,
+    /// Words of the lent matrix.
+    pub matrix_words: u64,
+}
+
+impl LanesGiven {
+    /// The first six numbers of the input, for a key of this length.
+    pub fn parameters(&self, key_len: u64) -> Parameters {
+        Parameters {
+            key_len,
+            password_len: self.password.count(),
+            salt_len: self.salt.count(),
+            t: self.t,
+            r: self.r,
+            c: self.c,
+        }
     }
 }
 
@@ -251,6 +285,27 @@ pub enum Question {
         /// The place.
         place: u64,
     },
+    /// The derivation with lanes.
+    LanesDerive {
+        /// Its inputs and matrix.
+        given: LanesGiven,
+        /// Bytes of the lent key buffer.
+        key_len: u64,
+    },
+    /// The check with lanes.
+    LanesCheck {
+        /// Its inputs and matrix.
+        given: LanesGiven,
+        /// The stored key.
+        stored: Bytes,
+    },
+    /// The cost question for lanes.
+    LanesCost {
+        /// The first six numbers of the input.
+        given: Parameters,
+        /// The number of lanes p.
+        p: u64,
+    },
 }
 
 impl Question {
@@ -269,6 +324,8 @@ impl Question {
             Question::BookFind { .. } | Question::BookRemove { .. } => BOOK_FIND_CHECKS,
             Question::BookAdd { .. } => BOOK_ADD_CHECKS,
             Question::BookCheck { .. } => BOOK_CHECK_CHECKS,
+            Question::LanesDerive { .. } | Question::LanesCheck { .. } => LANES_CHECKS,
+            Question::LanesCost { .. } => LANES_COST_CHECKS,
         }
     }
 }
@@ -293,7 +350,7 @@ pub enum Answer {
         /// The used matrix and the used record, if asked for in full.
         in_full: Option<(Vec<u64>, Vec<u64>)>,
     },
-    /// Of the plain derivation.
+    /// Of the plain derivation, or of the one with lanes.
     Derived {
         /// The key.
         key: Vec<u8>,
@@ -302,7 +359,7 @@ pub enum Answer {
         /// Checksum of the used matrix, which the call has to leave as zeros.
         matrix_sum: u64,
     },
-    /// Of the check, of a stored key or of a password against an account.
+    /// Of the check, of a stored key with lanes or without, or of a password against an account.
     Checked {
         /// Whether the stored key is the right one.
         matches: bool,
@@ -311,7 +368,7 @@ pub enum Answer {
         /// Checksum of the used matrix, which the call has to leave as zeros.
         matrix_sum: u64,
     },
-    /// Of the cost question.
+    /// Of the cost question, with lanes or without.
     Cost(Counts),
     /// Of the walk question.
     Walk {

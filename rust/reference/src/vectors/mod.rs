@@ -11,23 +11,29 @@ pub mod case;
 pub mod checksum;
 mod choices;
 pub mod fields;
+mod lanes;
+mod lanes_refused;
 mod lent;
 mod lines;
 mod mixer;
 pub mod random;
 pub mod random_book;
 pub mod random_choice;
+pub mod random_lanes;
 pub mod random_line;
 pub mod read;
 mod record;
 mod refused;
 pub mod run;
 mod run_book;
+mod run_lanes;
 mod settings;
 pub mod subject;
 pub mod write;
 
-pub use case::{Answer, Bytes, Case, Given, LentBook, LoginValues, NamedSettings, Question};
+pub use case::{
+    Answer, Bytes, Case, Given, LanesGiven, LentBook, LoginValues, NamedSettings, Question,
+};
 pub use read::{read, Problem};
 pub use run::Coverage;
 pub use subject::{Reference, Subject};
@@ -54,6 +60,8 @@ pub fn chosen_questions() -> Vec<Question> {
         refused::of_records(),
         choices::questions(),
         books::questions(),
+        lanes::questions(),
+        lanes_refused::questions(),
     ]
     .concat()
 }

@@ -1,7 +1,7 @@
 //! Reading a vectors file: every line is a case, a comment or empty.
 
 use super::case::{
-    Answer, Bytes, Case, Given, LentBook, LoginValues, NamedSettings, Output, Question,
+    Answer, Bytes, Case, Given, LanesGiven, LentBook, LoginValues, NamedSettings, Output, Question,
     LISTED_OUTPUT_BYTES,
 };
 use super::fields::{unknown_value, Fields, Trouble};
@@ -143,6 +143,18 @@ fn read_question(fields: &mut Fields) -> Result<Question, Trouble> {
         "choose" => Question::Choose {
             limits: read_limits(fields)?,
         },
+        "lanes_derive" => Question::LanesDerive {
+            given: read_lanes_given(fields)?,
+            key_len: fields.number("key_len", 0..=MOST_KEY_BYTES)?,
+        },
+        "lanes_check" => Question::LanesCheck {
+            given: read_lanes_given(fields)?,
+            stored: fields.bytes("stored", "stored_zeros")?,
+        },
+        "lanes_cost" => Question::LanesCost {
+            given: read_parameters(fields)?,
+            p: fields.any_number("p")?,
+        },
         op => return read_book_question(fields, op),
     })
 }
@@ -223,6 +235,18 @@ fn read_given(fields: &mut Fields) -> Result<Given, Trouble> {
     })
 }
 
+fn read_lanes_given(fields: &mut Fields) -> Result<LanesGiven, Trouble> {
+    Ok(LanesGiven {
+        password: fields.bytes("password", "password_zeros")?,
+        salt: fields.bytes("salt", "salt_zeros")?,
+        t: fields.any_number("T")?,
+        r: fields.any_number("R")?,
+        c: fields.any_number("C")?,
+        p: fields.any_number("p")?,
+        matrix_words: fields.number("matrix_words", 0..=MOST_WORDS)?,
+    })
+}
+
 /// What a choice goes by. No matrix is lent, so that its words may be any number.
 fn read_limits(fields: &mut Fields) -> Result<Limits, Trouble> {
     Ok(Limits {
@@ -275,17 +299,19 @@ fn read_answer(fields: &mut Fields, question: &Question) -> Result<Answer, Troub
     }
     Ok(match question {
         Question::DeriveRecorded { .. } => read_recorded(fields)?,
-        Question::Derive { .. } => Answer::Derived {
+        Question::Derive { .. } | Question::LanesDerive { .. } => Answer::Derived {
             key: fields.hex("key")?,
             counts: read_counts(fields)?,
             matrix_sum: fields.word("matrix_sum")?,
         },
-        Question::Check { .. } | Question::BookCheck { .. } => Answer::Checked {
-            matches: fields.either("answer", "yes", "no")?,
-            counts: read_counts(fields)?,
-            matrix_sum: fields.word("matrix_sum")?,
-        },
-        Question::Cost { .. } => Answer::Cost(read_counts(fields)?),
+        Question::Check { .. } | Question::BookCheck { .. } | Question::LanesCheck { .. } => {
+            Answer::Checked {
+                matches: fields.either("answer", "yes", "no")?,
+                counts: read_counts(fields)?,
+                matrix_sum: fields.word("matrix_sum")?,
+            }
+        }
+        Question::Cost { .. } | Question::LanesCost { .. } => Answer::Cost(read_counts(fields)?),
         Question::Walk { .. } | Question::WalkProgram { .. } => Answer::Walk {
             row1: fields.any_number("row1")?,
         },

@@ -3,7 +3,7 @@
 use super::case::{Answer, Bytes, Case, Given, LoginValues, Output, Question, LISTED_OUTPUT_BYTES};
 use super::fields::short;
 use super::subject::Subject;
-use super::{checksum, lent, run_book, write};
+use super::{checksum, lent, run_book, run_lanes, write};
 use crate::choice::{Choice, Limits, CHOSEN_TIME_COSTS, SMALLEST_COSTS};
 use crate::refusal::Refusal;
 use crate::settings::Settings;
@@ -65,6 +65,9 @@ pub(super) fn ask_if_offered(
         | Question::BookRemove { .. }
         | Question::BookCheck { .. }
         | Question::BookAccount { .. } => return run_book::ask(subject, question),
+        Question::LanesDerive { .. } | Question::LanesCheck { .. } | Question::LanesCost { .. } => {
+            return run_lanes::ask(subject, question)
+        }
     };
     Ok(Some(answer))
 }
@@ -261,8 +264,8 @@ pub fn check_case(subject: &impl Subject, case: &Case) -> Result<Coverage, Strin
 }
 
 /// Asks the operations that share a question's inputs for what they share of its answer, and says whether there was
-/// anything to ask: those beside a recorded derivation, the inverse of reading or writing a login line, the cost of what
-/// was chosen, and what a book tells of an account.
+/// anything to ask: those beside a recorded derivation or one with lanes, the inverse of reading or writing a login line, the
+/// cost of what was chosen, and what a book tells of an account.
 pub fn agree(subject: &impl Subject, question: &Question, answer: &Answer) -> Result<bool, String> {
     let (given, key_len) = match (question, answer) {
         (Question::DeriveRecorded { given, key_len, .. }, _) => (given, key_len),
@@ -274,6 +277,9 @@ pub fn agree(subject: &impl Subject, question: &Question, answer: &Answer) -> Re
         }
         (Question::Choose { limits }, _) => {
             return agree_on_choice(subject, limits, answer).map(|()| true)
+        }
+        (Question::LanesDerive { given, key_len }, _) => {
+            return run_lanes::agree(subject, given, *key_len, answer)
         }
         _ => return run_book::agree(subject, question, answer),
     };
@@ -303,13 +309,7 @@ fn agree_on_key(
         matrix_sum,
     };
     expect(subject, &derive_question(given, key_len), &derived)?;
-    let mut wrong_key = key.to_vec();
-    // The place of the wrong byte differs from case to case.
-    let place = checksum::of_bytes(key.iter().copied()) % key_len.max(1);
-    if let Some(byte) = wrong_key.get_mut(place as usize) {
-        *byte ^= 0x10;
-    }
-    for (stored, matches) in [(key.to_vec(), true), (wrong_key, false)] {
+    for (stored, matches) in [(key.to_vec(), true), (wrong_key(key), false)] {
         let checked = Answer::Checked {
             matches,
             counts,
@@ -319,6 +319,16 @@ fn agree_on_key(
         expect(subject, &check, &checked)?;
     }
     Ok(())
+}
+
+/// A key that differs in one bit of one byte; the place of the byte differs from case to case.
+pub(super) fn wrong_key(key: &[u8]) -> Vec<u8> {
+    let mut wrong = key.to_vec();
+    let place = checksum::of_bytes(key.iter().copied()) % (key.len() as u64).max(1);
+    if let Some(byte) = wrong.get_mut(place as usize) {
+        *byte ^= 0x10;
+    }
+    wrong
 }
 
 /// Asks the operations that have the check, and says whether there are any; a short record has none.

@@ -1,14 +1,14 @@
 //! The program that a vectors file is held against.
 
 use crate::{
-    Account, AccountValues, Checked, Choice, Counts, Inputs, Limits, LineParts, LineValues,
-    Parameters, Recorded, Refusal,
+    Account, AccountValues, Checked, Choice, Counts, Inputs, LaneInputs, Limits, LineParts,
+    LineValues, Parameters, Recorded, Refusal,
 };
 
 /// The operations of an implementation of Lyra2, as document 01 opens them to callers.
 ///
-/// A program may lack the recorded derivation, the walk program, the login lines, the choice of costs or the book of
-/// accounts; it then leaves their default, None.
+/// A program may lack the recorded derivation, the walk program, the login lines, the choice of costs, the book of
+/// accounts or the lanes; it then leaves their default, None.
 pub trait Subject {
     /// The recorded derivation.
     fn derive_recorded(
@@ -105,6 +105,31 @@ pub trait Subject {
     fn book_account(&self, _used_part: &[u8], _place: u64) -> Option<AccountValues> {
         None
     }
+
+    /// The derivation with lanes.
+    fn lanes_derive(
+        &self,
+        _inputs: &LaneInputs,
+        _key: &mut [u8],
+        _matrix: &mut [u64],
+    ) -> Option<Result<Counts, Refusal>> {
+        None
+    }
+
+    /// The check with lanes.
+    fn lanes_check(
+        &self,
+        _inputs: &LaneInputs,
+        _stored: &[u8],
+        _matrix: &mut [u64],
+    ) -> Option<Result<Checked, Refusal>> {
+        None
+    }
+
+    /// The cost question for lanes.
+    fn lanes_cost(&self, _given: &Parameters, _p: u64) -> Option<Result<Counts, Refusal>> {
+        None
+    }
 }
 
 /// The implementation of this crate.
@@ -198,5 +223,27 @@ impl Subject for Reference {
 
     fn book_account(&self, used_part: &[u8], place: u64) -> Option<AccountValues> {
         Some(crate::book_account(used_part, place))
+    }
+
+    fn lanes_derive(
+        &self,
+        inputs: &LaneInputs,
+        key: &mut [u8],
+        matrix: &mut [u64],
+    ) -> Option<Result<Counts, Refusal>> {
+        Some(crate::lanes_derive(inputs, key, matrix))
+    }
+
+    fn lanes_check(
+        &self,
+        inputs: &LaneInputs,
+        stored: &[u8],
+        matrix: &mut [u64],
+    ) -> Option<Result<Checked, Refusal>> {
+        Some(crate::lanes_check(inputs, stored, matrix))
+    }
+
+    fn lanes_cost(&self, given: &Parameters, p: u64) -> Option<Result<Counts, Refusal>> {
+        Some(crate::lanes_cost(given, p))
     }
 }

@@ -1,7 +1,7 @@
 //! Writing a case as a line of text.
 
 use super::case::{
-    Answer, Bytes, Case, Given, LentBook, LoginValues, NamedSettings, Output, Question,
+    Answer, Bytes, Case, Given, LanesGiven, LentBook, LoginValues, NamedSettings, Output, Question,
 };
 use crate::account::AccountValues;
 use crate::choice::{Choice, Limits};
@@ -45,6 +45,9 @@ pub fn op(question: &Question) -> &'static str {
         Question::BookRemove { .. } => "book_remove",
         Question::BookCheck { .. } => "book_check",
         Question::BookAccount { .. } => "book_account",
+        Question::LanesDerive { .. } => "lanes_derive",
+        Question::LanesCheck { .. } => "lanes_check",
+        Question::LanesCost { .. } => "lanes_cost",
     }
 }
 
@@ -93,6 +96,17 @@ fn question(question: &Question) -> Vec<Field> {
         | Question::BookRemove { .. }
         | Question::BookCheck { .. }
         | Question::BookAccount { .. } => book_question(question),
+        Question::LanesDerive { given, key_len } => {
+            let key_len = vec![("key_len", key_len.to_string())];
+            [key_len, lanes_given(given)].concat()
+        }
+        Question::LanesCheck { given, stored } => {
+            let stored = vec![bytes("stored", "stored_zeros", stored)];
+            [stored, lanes_given(given)].concat()
+        }
+        Question::LanesCost { given, p } => {
+            [parameters(given), vec![("p", p.to_string())]].concat()
+        }
     }
 }
 
@@ -165,6 +179,18 @@ fn given(given: &Given) -> Vec<Field> {
     }
     fields.push(("matrix_words", given.matrix_words.to_string()));
     fields
+}
+
+fn lanes_given(given: &LanesGiven) -> Vec<Field> {
+    vec![
+        bytes("password", "password_zeros", &given.password),
+        bytes("salt", "salt_zeros", &given.salt),
+        ("T", given.t.to_string()),
+        ("R", given.r.to_string()),
+        ("C", given.c.to_string()),
+        ("p", given.p.to_string()),
+        ("matrix_words", given.matrix_words.to_string()),
+    ]
 }
 
 fn login_values(values: &LoginValues) -> Vec<Field> {
