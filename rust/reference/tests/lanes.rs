@@ -233,3 +233,61 @@ fn whole_lanes_in_other_orders_and_lanes_step_by_step() {
         assert!(step_by_step == due, "{inputs:?}");
     }
 }
+
+/// 4·p, 6·p, 8·p and so on go with p lanes, and no other rows; below three rows 5 comes first.
+#[test]
+fn rows_that_go_with_a_number_of_lanes() {
+    let answer = |p: u64, r: u64| {
+        let given = LaneInputs {
+            r,
+            p,
+            ..inputs(1, 4, 1, 1)
+        };
+        let refusal = lanes_cost(&given.parameters(32), p).err();
+        refusal.map_or(0, |refusal| refusal.number())
+    };
+    for p in 0..=20 {
+        for r in 0..=200 {
+            let goes = (1..=8).contains(&p) && (2..=100).any(|pairs| r == 2 * p * pairs);
+            let due = match r {
+                0..=2 => 5,
+                _ if goes => 0,
+                _ => 20,
+            };
+            assert_eq!(answer(p, r), due, "p {p}, R {r}");
+        }
+    }
+    for bit in 4..64 {
+        assert_eq!(answer(1 << bit, 32), 20);
+        assert_eq!(answer(1 << bit | 2, 32), 20);
+    }
+    assert_eq!(answer(u64::MAX, 32), 20);
+}
+
+/// A refused call changes nothing, whatever it would have derived.
+#[test]
+fn refused_calls_keep_what_is_lent() {
+    let accepted = inputs(2, 4, 1, 1);
+    for (given, number) in [
+        (LaneInputs { t: 0, ..accepted }, 4),
+        (LaneInputs { p: 0, ..accepted }, 20),
+        (LaneInputs { p: 9, ..accepted }, 20),
+        (
+            LaneInputs {
+                p: u64::MAX,
+                ..accepted
+            },
+            20,
+        ),
+        (LaneInputs { r: 6, ..accepted }, 20),
+        (LaneInputs { r: 12, ..accepted }, 7),
+    ] {
+        let (mut key, mut matrix) = ([3; 32], [5; 100]);
+        let refused = lanes_derive(&given, &mut key, &mut matrix).expect_err("refused");
+        assert_eq!(refused.number(), number, "{given:?}");
+        assert_eq!((key, matrix), ([3; 32], [5; 100]), "{given:?}");
+        let refused = lanes_check(&given, &key, &mut matrix).expect_err("refused");
+        assert_eq!(refused.number(), number, "{given:?}");
+        assert_eq!(matrix, [5; 100], "{given:?}");
+    }
+}

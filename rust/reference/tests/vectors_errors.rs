@@ -54,6 +54,16 @@ const ACCOUNT: &str = "case=1 op=book_account \
     book=414307000000000300010008010000010203040506070a place=0 refusal=0 \
     size=23 number=7 T=0 R=3 C=1 salt_len=8 key_len=1";
 
+const LANES: &str =
+    "case=1 op=lanes_derive key_len=1 password=00 salt=0001020304050607 T=1 R=4 C=1 p=1 \
+    matrix_words=48 refusal=0 key=0a full=2 reduced=8 rounds=32 matrix_sum=66e368127e9e89a5";
+const LANES_CHECK: &str = "case=1 op=lanes_check stored=0a password=00 salt=0001020304050607 \
+    T=1 R=4 C=1 p=1 matrix_words=48 refusal=0 answer=no full=2 reduced=8 rounds=32 \
+    matrix_sum=66e368127e9e89a5";
+const LANES_COST: &str =
+    "case=1 op=lanes_cost key_len=1 password_len=1 salt_len=8 T=1 R=4 C=1 p=1 \
+    refusal=0 full=2 reduced=8 rounds=32";
+
 /// The problem that reading a line gives, which must be laid to that line.
 fn problem(line: &str) -> String {
     let file = format!("# a comment\n\n{line}\n");
@@ -71,8 +81,24 @@ fn replaced(line: &str, part: &str, by: &str) -> String {
 #[test]
 fn the_lines_that_the_others_start_from_are_good() {
     for line in [
-        WALK, COST, REFUSED, CHECK, PROGRAM, DERIVED, NAMED, LINE_READ, LINE_WRITE, CHOICE, FIND,
-        ADD, REMOVE, BOOK_CHECK, ACCOUNT,
+        WALK,
+        COST,
+        REFUSED,
+        CHECK,
+        PROGRAM,
+        DERIVED,
+        NAMED,
+        LINE_READ,
+        LINE_WRITE,
+        CHOICE,
+        FIND,
+        ADD,
+        REMOVE,
+        BOOK_CHECK,
+        ACCOUNT,
+        LANES,
+        LANES_CHECK,
+        LANES_COST,
     ] {
         assert!(read(format!("{line}\n").as_bytes()).is_ok(), "{line}");
     }
@@ -126,6 +152,9 @@ fn missing_fields() {
             ACCOUNT,
             &["place=0", "refusal=0", "size=23", "salt_len=8", "key_len=1"],
         ),
+        (LANES, &["key_len=1", "p=1", "matrix_words=48", "key=0a"]),
+        (LANES_CHECK, &["stored=0a", "p=1", "answer=no"]),
+        (LANES_COST, &["salt_len=8", "p=1", "rounds=32"]),
     ] {
         for field in fields {
             let (name, _) = field.split_once('=').unwrap();
@@ -187,7 +216,7 @@ fn settings_of_lines_that_have_none() {
     assert_eq!(rotation, unknown("omega"));
     let mixer = replaced(COST, " refusal=0", " rho=1 mixer=plain refusal=0");
     assert_eq!(mixer, unknown("mixer"));
-    for line in [WALK, LINE_READ, LINE_WRITE] {
+    for line in [WALK, LINE_READ, LINE_WRITE, LANES, LANES_CHECK, LANES_COST] {
         for field in ["rho=1", "omega=2", "mixer=plain"] {
             let what = replaced(line, " refusal=0", &format!(" {field} refusal=0"));
             let (name, _) = field.split_once('=').unwrap();

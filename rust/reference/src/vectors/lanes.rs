@@ -313,6 +313,44 @@ fn checks() -> Vec<Question> {
     questions
 }
 
+/// Checks of the key with each size at a limit, and with a matrix to spare.
+pub fn checks_at_limits() -> Vec<Question> {
+    let mut random = Random::new(68);
+    let base = Shape::lanes(2, 4);
+    let shapes = [
+        Shape {
+            key_len: 1024,
+            ..base
+        },
+        Shape {
+            password_len: 0,
+            salt_len: 8,
+            ..base
+        },
+        Shape {
+            password_len: 1024,
+            salt_len: 64,
+            ..base
+        },
+        Shape { t: 255, ..base },
+        Shape {
+            r: 16_384,
+            c: 1,
+            p: 8,
+            ..base
+        },
+        Shape { c: 256, ..base },
+    ];
+    let mut questions = Vec::new();
+    for (shape, spare) in shapes.into_iter().zip([0, 1, 0, 100, 0, 12]) {
+        let mut given = shape.given(&mut random);
+        given.matrix_words += spare;
+        let stored = Bytes::Listed(key_of(&given, shape.key_len));
+        questions.push(Question::LanesCheck { given, stored });
+    }
+    questions
+}
+
 /// The largest costs with each number of lanes, lengths at their limits, and around a block and a piece more.
 fn costs() -> Vec<Question> {
     let largest = (1..=8).map(|p| Shape {

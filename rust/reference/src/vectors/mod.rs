@@ -62,6 +62,7 @@ pub fn chosen_questions() -> Vec<Question> {
         books::questions(),
         lanes::questions(),
         lanes_refused::questions(),
+        lanes::checks_at_limits(),
     ]
     .concat()
 }
