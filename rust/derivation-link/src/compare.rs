@@ -5,6 +5,7 @@
 use crate::books;
 use crate::choices;
 use crate::guarded::{byte, word, Guarded};
+use crate::lanes::{self, ComparedLanes};
 use crate::lines;
 use lyra2_reference::vectors::random::{self, Random};
 use lyra2_reference::vectors::{Reference, Subject};
@@ -26,6 +27,8 @@ pub struct Compared {
     pub choices: Vec<Result<Choice, Refusal>>,
     /// What both programs answered to the calls on books of accounts: no refusal, or one.
     pub books: Vec<Result<(), Refusal>>,
+    /// What the derivation with lanes was about, and what both programs answered to it.
+    pub lanes: ComparedLanes,
 }
 
 /// The sizes of a call.
@@ -65,8 +68,9 @@ const BOOKS: usize = 4;
 /// Calls on the one book of a seed that goes from call to call.
 const BOOK_STEPS: u64 = 8;
 
-/// Makes the comparison of a seed: both derivations, the cost question, three checks, some login lines, some choices and some
-/// books. What a later request adds is drawn last, so that all else of a seed is what it was.
+/// Makes the comparison of a seed: both derivations, the cost question, three checks, some login lines, some choices, some books,
+/// and a derivation with lanes, its cost and three checks. What a later request adds is drawn last, so that all else of a seed is
+/// what it was.
 pub fn compare(subject: &impl Subject, seed: u64) -> Result<Compared, String> {
     let mut random = Random::new(seed);
     let mut sizes = draw_sizes(&mut random);
@@ -94,6 +98,7 @@ pub fn compare(subject: &impl Subject, seed: u64) -> Result<Compared, String> {
     let books = (0..BOOKS).map(|_| books::compare_question(subject, &mut random));
     let mut books = books.collect::<Result<Vec<_>, _>>()?;
     books.extend(books::compare_history(subject, BOOK_STEPS, &mut random)?);
+    let lanes = lanes::compare_random(subject, &mut random)?;
     Ok(Compared {
         sizes: sizes.given,
         settings: sizes.settings,
@@ -101,6 +106,7 @@ pub fn compare(subject: &impl Subject, seed: u64) -> Result<Compared, String> {
         lines,
         choices,
         books,
+        lanes,
     })
 }
 
@@ -138,7 +144,11 @@ fn record_words(given: &Parameters, spare: u64) -> u64 {
 }
 
 /// A number up to the first of three limits; seldom up to the second, and hardly ever up to the third.
-fn mostly_small(random: &mut Random, low: u64, [usual, seldom, hardly]: [u64; 3]) -> u64 {
+pub(crate) fn mostly_small(
+    random: &mut Random,
+    low: u64,
+    [usual, seldom, hardly]: [u64; 3],
+) -> u64 {
     let high = match random.between(0, 999) {
         0 => hardly,
         1..=100 => seldom,
@@ -280,7 +290,7 @@ fn compare_cost(subject: &impl Subject, lent: &Lent, end: &End) -> Result<(), St
 }
 
 /// The key; the key with one bit flipped; the key with another last byte. Each with the check's answer.
-fn stored_keys(key: &[u8], random: &mut Random) -> Vec<(Vec<u8>, bool)> {
+pub(crate) fn stored_keys(key: &[u8], random: &mut Random) -> Vec<(Vec<u8>, bool)> {
     let mut keys = vec![(key.to_vec(), true)];
     if let Some(last) = key.len().checked_sub(1) {
         let mut one_bit = key.to_vec();

@@ -1,8 +1,8 @@
 //! The proved derivation beside the second program.
 //!
 //! [`Proved`] gives the C interface the form that the vectors file and the second program share, [`compare`] holds it
-//! against that program on random inputs, [`lines`] on login lines, [`choices`] on choices of costs, and [`books`] on
-//! books of accounts.
+//! against that program on random inputs, [`lines`] on login lines, [`choices`] on choices of costs, [`books`] on books of
+//! accounts, and [`lanes`] with several lanes.
 
 #![forbid(unsafe_code)]
 #![warn(missing_docs)]
@@ -11,12 +11,13 @@ pub mod books;
 pub mod choices;
 pub mod compare;
 pub mod guarded;
+pub mod lanes;
 pub mod lines;
 
 use lyra2_reference::vectors::Subject;
 use lyra2_reference::{
-    Account, AccountValues, Checked, Choice, Counts, Inputs, Limits, LineParts, LineValues, Mixer,
-    Parameters, Recorded, Refusal,
+    Account, AccountValues, Checked, Choice, Counts, Inputs, LaneInputs, Limits, LineParts,
+    LineValues, Mixer, Parameters, Recorded, Refusal,
 };
 
 /// What the places for an answer hold before a call; no accepted call gives such a number.
@@ -54,6 +55,31 @@ pub fn sizes(given: &Parameters, rho: u64) -> lyra2_sys::Sizes {
         rows: size(given.r),
         columns: size(given.c),
         rounds: size(rho),
+    }
+}
+
+/// The second program's inputs of a derivation with lanes as the library takes them.
+pub fn lanes_input<'a>(inputs: &LaneInputs<'a>) -> lyra2_sys::LanesInput<'a> {
+    lyra2_sys::LanesInput {
+        password: inputs.password,
+        salt: inputs.salt,
+        time: size(inputs.t),
+        rows: size(inputs.r),
+        columns: size(inputs.c),
+        lanes: size(inputs.p),
+    }
+}
+
+/// The second program's six numbers and p as the library takes them.
+pub fn lanes_sizes(given: &Parameters, p: u64) -> lyra2_sys::LanesSizes {
+    lyra2_sys::LanesSizes {
+        key: size(given.key_len),
+        password: size(given.password_len),
+        salt: size(given.salt_len),
+        time: size(given.t),
+        rows: size(given.r),
+        columns: size(given.c),
+        lanes: size(p),
     }
 }
 
@@ -245,6 +271,36 @@ impl Subject for Proved {
             salt_len,
             key_len,
         })
+    }
+
+    fn lanes_derive(
+        &self,
+        inputs: &LaneInputs,
+        key: &mut [u8],
+        matrix: &mut [u64],
+    ) -> Option<Result<Counts, Refusal>> {
+        let mut costs = [BEFORE; 3];
+        let number = lyra2_sys::lanes_derive(lanes_input(inputs), key, matrix, &mut costs);
+        Some(counts(number, costs))
+    }
+
+    fn lanes_check(
+        &self,
+        inputs: &LaneInputs,
+        stored: &[u8],
+        matrix: &mut [u64],
+    ) -> Option<Result<Checked, Refusal>> {
+        let mut costs = [BEFORE; 3];
+        let mut same = BEFORE as u32;
+        let number =
+            lyra2_sys::lanes_check(lanes_input(inputs), stored, matrix, &mut same, &mut costs);
+        Some(checked(number, same, costs))
+    }
+
+    fn lanes_cost(&self, given: &Parameters, p: u64) -> Option<Result<Counts, Refusal>> {
+        let mut costs = [BEFORE; 3];
+        let number = lyra2_sys::lanes_cost(lanes_sizes(given, p), &mut costs);
+        Some(counts(number, costs))
     }
 }
 

@@ -1,5 +1,5 @@
-//! Faulty programs, made on purpose: the random comparison has to notice every fault. Those that keep books of accounts stand in
-//! a file of their own.
+//! Faulty programs, made on purpose: the random comparison has to notice every fault. Those that keep books of accounts and
+//! those with lanes stand in files of their own.
 
 use derivation_link::compare::compare;
 use derivation_link::Proved;
@@ -7,8 +7,8 @@ use lyra2_reference::record;
 use lyra2_reference::refusal::{check_record, ROTATIONS, ROUNDS};
 use lyra2_reference::vectors::Subject;
 use lyra2_reference::{
-    Account, AccountValues, Checked, Choice, Counts, Inputs, Limits, LineParts, LineValues, Mixer,
-    Parameters, Recorded, Refusal, Settings,
+    Account, AccountValues, Checked, Choice, Counts, Inputs, LaneInputs, Limits, LineParts,
+    LineValues, Mixer, Parameters, Recorded, Refusal, Settings,
 };
 
 #[derive(Clone, Copy, Debug, PartialEq, Eq)]
@@ -587,6 +587,28 @@ impl Subject for Faulty {
 
     fn book_account(&self, used_part: &[u8], place: u64) -> Option<AccountValues> {
         Proved.book_account(used_part, place)
+    }
+
+    fn lanes_derive(
+        &self,
+        inputs: &LaneInputs,
+        key: &mut [u8],
+        matrix: &mut [u64],
+    ) -> Option<Result<Counts, Refusal>> {
+        Proved.lanes_derive(inputs, key, matrix)
+    }
+
+    fn lanes_check(
+        &self,
+        inputs: &LaneInputs,
+        stored: &[u8],
+        matrix: &mut [u64],
+    ) -> Option<Result<Checked, Refusal>> {
+        Proved.lanes_check(inputs, stored, matrix)
+    }
+
+    fn lanes_cost(&self, given: &Parameters, p: u64) -> Option<Result<Counts, Refusal>> {
+        Proved.lanes_cost(given, p)
     }
 }
 

@@ -4,8 +4,8 @@ use derivation_link::compare::compare;
 use derivation_link::Proved;
 use lyra2_reference::vectors::Subject;
 use lyra2_reference::{
-    book_find, Account, AccountValues, Checked, Choice, Counts, Inputs, Limits, LineParts,
-    LineValues, Parameters, Recorded, Refusal,
+    book_find, Account, AccountValues, Checked, Choice, Counts, Inputs, LaneInputs, Limits,
+    LineParts, LineValues, Parameters, Recorded, Refusal,
 };
 
 #[derive(Clone, Copy, Debug, PartialEq, Eq)]
@@ -338,6 +338,28 @@ impl Subject for Faulty {
             _ => (),
         }
         Some(values)
+    }
+
+    fn lanes_derive(
+        &self,
+        inputs: &LaneInputs,
+        key: &mut [u8],
+        matrix: &mut [u64],
+    ) -> Option<Result<Counts, Refusal>> {
+        Proved.lanes_derive(inputs, key, matrix)
+    }
+
+    fn lanes_check(
+        &self,
+        inputs: &LaneInputs,
+        stored: &[u8],
+        matrix: &mut [u64],
+    ) -> Option<Result<Checked, Refusal>> {
+        Proved.lanes_check(inputs, stored, matrix)
+    }
+
+    fn lanes_cost(&self, given: &Parameters, p: u64) -> Option<Result<Counts, Refusal>> {
+        Proved.lanes_cost(given, p)
     }
 }
 

@@ -1,6 +1,7 @@
 //! Random inputs: the proved library against the second program, in lent buffers between guards.
 
 use derivation_link::compare::compare;
+use derivation_link::lanes::ComparedLanes;
 use derivation_link::Proved;
 use lyra2_reference::vectors::random::{question, Random};
 use lyra2_reference::vectors::{run, Case, Coverage, Reference};
@@ -27,6 +28,19 @@ struct Met {
     choices: MetChoices,
     /// Of calls on books; 0 is an accepted one.
     books: BTreeSet<u8>,
+    lanes: MetLanes,
+}
+
+/// Lengths, time costs and rows of the accepted derivations with lanes, and the refusals of the others.
+#[derive(Default)]
+struct MetLanes {
+    keys: BTreeSet<u64>,
+    passwords: BTreeSet<u64>,
+    salts: BTreeSet<u64>,
+    times: BTreeSet<u64>,
+    /// The number of lanes, and the rows of each.
+    rows: BTreeSet<(u64, u64)>,
+    refusals: BTreeSet<u8>,
 }
 
 /// What was chosen, and with which numbers choices were refused; 0 is an accepted one.
@@ -57,6 +71,32 @@ impl MetChoices {
     }
 }
 
+impl MetLanes {
+    fn add(&mut self, compared: ComparedLanes) {
+        let ComparedLanes { sizes, p, answer } = compared;
+        self.refusals.insert(number(&answer));
+        if answer.is_ok() {
+            self.keys.insert(sizes.key_len);
+            self.passwords.insert(sizes.password_len);
+            self.salts.insert(sizes.salt_len);
+            self.times.insert(sizes.t);
+            self.rows.insert((p, sizes.r / p));
+        }
+    }
+
+    fn assert_complete(&self) {
+        assert_eq!(self.keys, (1..=1024).collect());
+        assert_eq!(self.passwords, (0..=1024).collect());
+        assert_eq!(self.salts, (8..=64).collect());
+        assert!((1..=9).all(|t| self.times.contains(&t)));
+        for p in 1..=8 {
+            let met = |lane_rows: &u64| self.rows.contains(&(p, *lane_rows));
+            assert!((4..=40).step_by(2).all(|rows| met(&rows)), "{p} lanes");
+        }
+        assert_eq!(self.refusals, [0, 1, 2, 3, 4, 5, 6, 7, 10, 20].into());
+    }
+}
+
 #[test]
 fn every_length_setting_and_refusal_is_met_and_the_two_programs_agree() {
     let mut met = Met::default();
@@ -67,6 +107,7 @@ fn every_length_setting_and_refusal_is_met_and_the_two_programs_agree() {
         met.books.extend(compared.books.iter().map(number));
         let choices = compared.choices.into_iter();
         choices.for_each(|answer| met.choices.add(answer));
+        met.lanes.add(compared.lanes);
         let Settings { rho, omega, mixer } = compared.settings;
         let is_blamka = mixer == Mixer::BlaMka;
         if let Err(refusal) = compared.answer {
@@ -99,6 +140,7 @@ fn every_length_setting_and_refusal_is_met_and_the_two_programs_agree() {
     assert!([3, 4, 16_383, 16_384].iter().all(|r| rows.contains(r)));
     assert!(met.choices.short >= 10_000, "{}", met.choices.short);
     assert_eq!(met.books, [0, 1, 2, 3, 4, 5, 6, 7, 10, 17, 18, 19].into());
+    met.lanes.assert_complete();
 }
 
 /// The second program's own questions, recorded derivations of larger matrices than the comparisons have.

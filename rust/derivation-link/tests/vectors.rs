@@ -121,6 +121,18 @@ fn books() {
 }
 
 #[test]
+fn lanes() {
+    for (op, least) in [
+        ("lanes_derive", 350),
+        ("lanes_check", 180),
+        ("lanes_cost", 220),
+    ] {
+        let count = run_lines(|case| write::op(&case.question) == op);
+        assert!(count >= least, "{op}: {count}");
+    }
+}
+
+#[test]
 fn walk_questions() {
     let wanted = |case: &Case| matches!(case.question, Question::Walk { .. });
     assert!(run_lines(wanted) >= 220);

@@ -1,7 +1,7 @@
 //! Holds the proved library against the second program on random inputs, for runs longer than the tests.
 //!
-//! `compare-random SEED COUNT` makes the comparisons of COUNT seeds from SEED on: derivations, login lines, choices of costs and books
-//! of accounts. A line every ten seconds says how far it is and from which seed to go on; a failure names the seed that repeats it.
+//! `compare-random SEED COUNT` makes the comparisons of COUNT seeds from SEED on: derivations with one sponge and with several lanes,
+//! login lines, choices of costs and books of accounts. A line every ten seconds says how far it is and from which seed to go on; a failure names the seed that repeats it.
 
 #![forbid(unsafe_code)]
 
@@ -60,7 +60,7 @@ fn run(first_seed: u64, count: u64) -> Result<String, String> {
     ))
 }
 
-/// Makes the comparison of a seed and tells what its calls answered: the derivation, the login lines, the choices and those on
+/// Makes the comparison of a seed and tells what its calls answered: both derivations, the login lines, the choices and those on
 /// books. Where the library breaks a promise that its caller asserts, that panics, and the seed has to be named all the same.
 fn compare_seed(seed: u64) -> Result<Vec<Result<(), Refusal>>, String> {
     let repeat = |what: &str| format!("{what}; `compare-random {seed} 1` repeats it");
@@ -70,6 +70,7 @@ fn compare_seed(seed: u64) -> Result<Vec<Result<(), Refusal>>, String> {
             answers.push(compared.answer.map(drop));
             answers.extend(compared.choices.iter().map(|choice| choice.map(drop)));
             answers.extend(compared.books);
+            answers.push(compared.lanes.answer.map(drop));
             Ok(answers)
         }
         Ok(Err(what)) => Err(repeat(&what)),
