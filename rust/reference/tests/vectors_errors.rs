@@ -264,6 +264,8 @@ fn fields_given_twice_or_unknown() {
     assert_eq!(refused, "field T: unknown in a line of this kind");
     let op = replaced(WALK, "op=walk", "op=wander");
     assert_eq!(op, "field op: 'wander' is unknown");
+    let op = replaced(LANES, "lanes_derive", "lanes_wander");
+    assert_eq!(op, "field op: 'lanes_wander' is unknown");
 }
 
 #[test]

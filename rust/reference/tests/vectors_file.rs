@@ -26,7 +26,7 @@ fn is_small(question: &Question) -> bool {
         Question::DeriveRecorded { given, .. }
         | Question::Derive { given, .. }
         | Question::Check { given, .. } => given.matrix_words < 1_000_000,
-        // Those with lanes lend 196,608 words at most.
+        // Those with lanes lend 200,000 words at most.
         _ => true,
     }
 }

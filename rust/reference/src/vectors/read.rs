@@ -143,18 +143,7 @@ fn read_question(fields: &mut Fields) -> Result<Question, Trouble> {
         "choose" => Question::Choose {
             limits: read_limits(fields)?,
         },
-        "lanes_derive" => Question::LanesDerive {
-            given: read_lanes_given(fields)?,
-            key_len: fields.number("key_len", 0..=MOST_KEY_BYTES)?,
-        },
-        "lanes_check" => Question::LanesCheck {
-            given: read_lanes_given(fields)?,
-            stored: fields.bytes("stored", "stored_zeros")?,
-        },
-        "lanes_cost" => Question::LanesCost {
-            given: read_parameters(fields)?,
-            p: fields.any_number("p")?,
-        },
+        op if op.starts_with("lanes_") => return read_lanes_question(fields, op),
         op => return read_book_question(fields, op),
     })
 }
@@ -183,6 +172,24 @@ fn read_book_question(fields: &mut Fields, op: &str) -> Result<Question, Trouble
         "book_account" => Question::BookAccount {
             used_part: fields.hex("book")?,
             place: fields.any_number("place")?,
+        },
+        other => return Err(unknown_value("op", other)),
+    })
+}
+
+fn read_lanes_question(fields: &mut Fields, op: &str) -> Result<Question, Trouble> {
+    Ok(match op {
+        "lanes_derive" => Question::LanesDerive {
+            given: read_lanes_given(fields)?,
+            key_len: fields.number("key_len", 0..=MOST_KEY_BYTES)?,
+        },
+        "lanes_check" => Question::LanesCheck {
+            given: read_lanes_given(fields)?,
+            stored: fields.bytes("stored", "stored_zeros")?,
+        },
+        "lanes_cost" => Question::LanesCost {
+            given: read_parameters(fields)?,
+            p: fields.any_number("p")?,
         },
         other => return Err(unknown_value("op", other)),
     })

@@ -96,16 +96,8 @@ fn question(question: &Question) -> Vec<Field> {
         | Question::BookRemove { .. }
         | Question::BookCheck { .. }
         | Question::BookAccount { .. } => book_question(question),
-        Question::LanesDerive { given, key_len } => {
-            let key_len = vec![("key_len", key_len.to_string())];
-            [key_len, lanes_given(given)].concat()
-        }
-        Question::LanesCheck { given, stored } => {
-            let stored = vec![bytes("stored", "stored_zeros", stored)];
-            [stored, lanes_given(given)].concat()
-        }
-        Question::LanesCost { given, p } => {
-            [parameters(given), vec![("p", p.to_string())]].concat()
+        Question::LanesDerive { .. } | Question::LanesCheck { .. } | Question::LanesCost { .. } => {
+            lanes_question(question)
         }
     }
 }
@@ -132,6 +124,23 @@ fn book_question(question: &Question) -> Vec<Field> {
         }
         Question::BookAccount { used_part, place } => {
             vec![("book", hex(used_part)), ("place", place.to_string())]
+        }
+        _ => Vec::new(),
+    }
+}
+
+fn lanes_question(question: &Question) -> Vec<Field> {
+    match question {
+        Question::LanesDerive { given, key_len } => {
+            let key_len = vec![("key_len", key_len.to_string())];
+            [key_len, lanes_given(given)].concat()
+        }
+        Question::LanesCheck { given, stored } => {
+            let stored = vec![bytes("stored", "stored_zeros", stored)];
+            [stored, lanes_given(given)].concat()
+        }
+        Question::LanesCost { given, p } => {
+            [parameters(given), vec![("p", p.to_string())]].concat()
         }
         _ => Vec::new(),
     }
