@@ -18,15 +18,15 @@
  * Overlap       What a call writes overlaps nothing else that it is lent: salt and key of an account that is added do
  *               not lie in the book, whose bytes move. What a call only reads may overlap.
  * Threads       Any number of calls at once, each with its own memory to write. Nobody else writes what a call is lent.
- * Time          Depends on the lengths and numbers, and on the rows and columns that the visits pick, which in Lyra2
- *               depend on the password. The checks compare every byte of the key, whatever they find. A call with a
- *               book looks at its marks, account numbers, costs and lengths as well, and to see that no number stands
+ * Time          Depends on the lengths and numbers, and on the lanes, rows and columns that the visits pick, which in
+ *               Lyra2 depend on the password. The checks compare every byte of the key, whatever they find. A call with
+ *               a book looks at its marks, account numbers, costs and lengths as well, and to see that no number stands
  *               there twice it takes time that grows with the square of the number of accounts.
  * Secrets       Wipe the password, the key, a login line and a book, which hold keys, and, after a recorded derivation,
  *               matrix, record and state. Whoever has the last three can try guesses with them, and all together give
- *               the key and mostly the password too, since the steps can be undone. The matrix of lyra2_derive,
- *               lyra2_check and lyra2_book_check needs no wiping: accepted, they end with zeros in its used words, and
- *               it can be lent on at once; refused, they leave in it what it held.
+ *               the key and mostly the password too, since the steps can be undone. The matrix of any other call needs
+ *               no wiping: accepted, the call ends with zeros in its used words, and they can be lent on at once;
+ *               refused, it leaves in them what they held.
  * Stack         Less than LYRA2_STACK_BYTES. A call clears its state there: no word of the key, the password or the
  *               matrix was found afterwards, and of the state only what a recorded derivation returns. This is measured
  *               and not promised. Registers are not cleared.
@@ -85,6 +85,22 @@ extern "C" {
 #define LYRA2_MIXER_USUAL LYRA2_MIXER_PLAIN
 
 /*
+ * Several lanes, the guide's p: that many sponges, each with its own rows / lanes rows of the one matrix, which read
+ * each other's rows and whose keys are XORed into one. The lyra2_lanes_ calls compute this, always with the usual
+ * settings. The rows are those of all lanes together; LYRA2_MATRIX_WORDS takes them and not those of a lane. They have
+ * to be a multiple of 2 * lanes with at least LYRA2_LANE_ROWS_MIN rows for each: 8, 12, 16 and on for two lanes. The
+ * time starts at LYRA2_LANES_TIME_MIN.
+ * Each number of lanes gives another key, and one lane is not the single sponge of lyra2_derive: its input ends in two
+ * more numbers, and its visits go another way. A key does not tell its lanes: who stores it keeps their number beside
+ * it. A login line and an account of a book have no place for that, so their keys are those of the single sponge. A
+ * call lets the lanes run in turn, in its own thread: more of them do not make it faster.
+ */
+#define LYRA2_LANES_MIN 1
+#define LYRA2_LANES_MAX 8
+#define LYRA2_LANES_TIME_MIN 1
+#define LYRA2_LANE_ROWS_MIN 4
+
+/*
  * A login line as text. No line within the limits is longer than LYRA2_LINE_MAX bytes, so outputs of LYRA2_LINE_MAX,
  * LYRA2_SALT_MAX and LYRA2_KEY_MAX bytes are never too short. The values of a line, by their place:
  */
@@ -122,7 +138,10 @@ extern "C" {
 #define LYRA2_CELL_WORDS 12
 #define LYRA2_STACK_BYTES 2048
 
-/* The counts of a call, by their place: LYRA2_ROUNDS is 12 for each full call and `rounds` for each reduced one. */
+/*
+ * The counts of a call, by their place: LYRA2_ROUNDS is 12 for each full call and `rounds` for each reduced one, with
+ * lanes 1. Those of lanes are of all lanes together.
+ */
 #define LYRA2_COUNTS 3
 #define LYRA2_FULL_CALLS 0
 #define LYRA2_REDUCED_CALLS 1
@@ -149,6 +168,9 @@ extern "C" {
  *     lyra2_derive_recorded        1, 2, 3, 10, 4, 5, 6, 13, 14, 7, 8
  *     lyra2_derive, lyra2_check    1, 2, 3, 10, 4, 5, 6, 13, 14, 7
  *     lyra2_cost                   1, 2, 3, 10, 4, 5, 6, 13
+ *     lyra2_lanes_derive           1, 2, 3, 10, 4, 5, 6, 20, 7
+ *     lyra2_lanes_check            1, 2, 3, 10, 4, 5, 6, 20, 7
+ *     lyra2_lanes_cost             1, 2, 3, 10, 4, 5, 6, 20
  *     lyra2_choose                 1, 2, 3, 10, 13, 15, 16
  *     lyra2_walk                   5, 9
  *     lyra2_line_read              11, 1, 3, 10, 4, 5, 6, 12
@@ -178,7 +200,8 @@ enum lyra2_refusal {
     LYRA2_REFUSED_NOTHING_FITS = 16,
     LYRA2_REFUSED_BOOK = 17,
     LYRA2_REFUSED_NO_ACCOUNT = 18,
-    LYRA2_REFUSED_BOOK_FULL = 19
+    LYRA2_REFUSED_BOOK_FULL = 19,
+    LYRA2_REFUSED_LANES = 20
 };
 
 /* What an answer says, in words. */
@@ -189,7 +212,7 @@ static inline const char *lyra2_sentence(uint32_t answer)
     case LYRA2_REFUSED_KEY: return "the key has to have 1 to 1024 bytes";
     case LYRA2_REFUSED_PASSWORD: return "the password may have at most 1024 bytes";
     case LYRA2_REFUSED_SALT_TOO_SHORT: return "the salt has to have at least 8 bytes";
-    case LYRA2_REFUSED_TIME: return "the time cost may be at most 255";
+    case LYRA2_REFUSED_TIME: return "the time cost may be at most 255, and with lanes not 0";
     case LYRA2_REFUSED_ROWS: return "the number of rows has to be 3 to 16384";
     case LYRA2_REFUSED_COLUMNS: return "the number of columns has to be 1 to 256";
     case LYRA2_REFUSED_MATRIX: return "the lent matrix is too short for the rows and columns";
@@ -205,6 +228,7 @@ static inline const char *lyra2_sentence(uint32_t answer)
     case LYRA2_REFUSED_BOOK: return "the book has to be whole accounts within the limits, no number twice";
     case LYRA2_REFUSED_NO_ACCOUNT: return "the book has no account of this number";
     case LYRA2_REFUSED_BOOK_FULL: return "the book has no room for the account";
+    case LYRA2_REFUSED_LANES: return "the lanes have to be 1 to 8, the rows a multiple of 2 * lanes from 4 * lanes on";
     default: return "no answer has this number";
     }
 }
@@ -268,6 +292,40 @@ LYRA2_ANSWER uint32_t lyra2_check(
 LYRA2_ANSWER uint32_t lyra2_cost(
     size_t key_len, size_t password_len, size_t salt_len,
     size_t time, size_t rows, size_t columns, size_t rounds,
+    uint64_t counts[LYRA2_COUNTS]);
+
+/*
+ * Derives a key of key_len bytes with several lanes. Writes the key, the used matrix, which ends as zeros, and the
+ * counts.
+ */
+LYRA2_ANSWER uint32_t lyra2_lanes_derive(
+    const uint8_t *password, size_t password_len,
+    const uint8_t *salt, size_t salt_len,
+    size_t time, size_t rows, size_t columns, size_t lanes,
+    uint8_t *key, size_t key_len,
+    uint64_t *matrix, size_t matrix_words,
+    uint64_t counts[LYRA2_COUNTS]);
+
+/*
+ * Tells whether the stored bytes are the key of their length with several lanes: *same becomes 1 or 0. Writes the used
+ * matrix too, which ends as zeros, and the counts. After a refusal *same is 0, a no.
+ */
+LYRA2_ANSWER uint32_t lyra2_lanes_check(
+    const uint8_t *password, size_t password_len,
+    const uint8_t *salt, size_t salt_len,
+    size_t time, size_t rows, size_t columns, size_t lanes,
+    const uint8_t *stored, size_t stored_len,
+    uint64_t *matrix, size_t matrix_words,
+    uint32_t *same,
+    uint64_t counts[LYRA2_COUNTS]);
+
+/*
+ * Foretells the counts of a derivation or a check with several lanes from the lengths and numbers alone. Writes the
+ * counts.
+ */
+LYRA2_ANSWER uint32_t lyra2_lanes_cost(
+    size_t key_len, size_t password_len, size_t salt_len,
+    size_t time, size_t rows, size_t columns, size_t lanes,
     uint64_t counts[LYRA2_COUNTS]);
 
 /*

@@ -66,7 +66,7 @@ refused 3 'the salt has to have at least 8 bytes' saltsal 1 3 1 32
 refused 10 'the salt may have at most 64 bytes' "$(printf '%065d' 0)" 1 3 1 32
 refused 10 'the salt may have at most 64 bytes' "$(printf '%065d' 0)" 256 2 0 32
 for time in 256 99999999999999999999; do
-    refused 4 'the time cost may be at most 255' saltsalt $time 3 1 32
+    refused 4 'the time cost may be at most 255, and with lanes not 0' saltsalt $time 3 1 32
 done
 for rows in 2 16385; do
     refused 5 'the number of rows has to be 3 to 16384' saltsalt 1 $rows 1 32
@@ -113,7 +113,7 @@ login 'a line with two rows' 2 'refused 5: the number of rows has to be 3 to 163
 # With a number of many digits a line is as long as the longest, and then a byte longer.
 digits=$(printf '%0*d' $((1480 - ${#line})) 0)
 printf '%s\n' "${line/t=1/t=1$digits}" >"$work/line"
-login 'a line of 1480 bytes' 2 'refused 4: the time cost may be at most 255' "$password" "$work/line"
+login 'a line of 1480 bytes' 2 'refused 4: the time cost may be at most 255, and with lanes not 0' "$password" "$work/line"
 printf '%s\n\n' "${line/t=1/t=1$digits}" >"$work/line"
 login 'a line of 1480 bytes and two newlines' 2 'the file is longer than any line' "$password" "$work/line"
 printf '%s\n' "${line/t=1/t=10$digits}" >"$work/line"
@@ -196,7 +196,7 @@ book 'a key of 0 bytes' 1 'refused 1: the key has to have 1 to 1024 bytes' "$pas
 book 'a long password' 1 'refused 2: the password may have at most 1024 bytes' "$(printf '%01025d' 0)" saltsalt 1 3 1 32
 book 'no salt' 1 'refused 3: the salt has to have at least 8 bytes' "$password" '' 1 3 1 32
 book 'a long salt' 1 'refused 10: the salt may have at most 64 bytes' "$password" "$(printf '%0100d' 0)" 1 3 1 32
-book 'a large time' 1 'refused 4: the time cost may be at most 255' "$password" saltsalt 256 3 1 32
+book 'a large time' 1 'refused 4: the time cost may be at most 255, and with lanes not 0' "$password" saltsalt 256 3 1 32
 book 'few rows' 1 'refused 5: the number of rows has to be 3 to 16384' "$password" saltsalt 1 2 1 32
 book 'no columns' 1 'refused 6: the number of columns has to be 1 to 256' "$password" saltsalt 1 3 0 32
 for arguments in '' 'saltsalt 1 3 1' 'saltsalt 1 3 1 32 1' 'saltsalt x 3 1 32' 'saltsalt 1 3 1 32x'; do
