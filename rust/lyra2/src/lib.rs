@@ -66,6 +66,32 @@
 //! # Ok::<(), Box<dyn std::error::Error>>(())
 //! ```
 //!
+//! # Several lanes
+//!
+//! [`Lanes`] derive with up to eight sponges, each with its part of the rows, which read each other's rows and whose keys
+//! are XORed into one; docs/LANES.md describes it. The key is another one for every number of lanes, and that of one lane
+//! is not that of [`derive`](derive()). R has to be a multiple of twice that number, with at least [`LANE_ROWS_MIN`] rows
+//! for each.
+//!
+//! ```
+//! use lyra2::{Lanes, Parameters, Refusal};
+//!
+//! let parameters = Parameters { time: 1, rows: 64, columns: 16 };
+//! let lanes = Lanes { parameters, count: 4 };
+//! let (mut matrix, mut key) = (parameters.matrix()?, [0; 32]);
+//! let counts = lanes.derive(b"password", b"saltsalt", &mut key, &mut matrix)?;
+//!
+//! assert_eq!(counts.reduced, 64 * 16 * 2);
+//! assert!(matrix.iter().all(|&word| word == 0));
+//! assert!(lanes.check(b"password", b"saltsalt", &key, &mut matrix)?.same);
+//! let one = Lanes { count: 1, ..lanes };
+//! assert!(!one.check(b"password", b"saltsalt", &key, &mut matrix)?.same);
+//! let seven = Lanes { count: 7, ..lanes };
+//! let refused = seven.derive(b"password", b"saltsalt", &mut key, &mut matrix);
+//! assert_eq!(refused, Err(Refusal::Lanes));
+//! # Ok::<(), Box<dyn std::error::Error>>(())
+//! ```
+//!
 //! # A login line
 //!
 //! A login line is text that holds all that a check needs beside the password: T, R, C, the salt and the key, which goes
@@ -195,6 +221,7 @@
 
 mod book;
 mod choice;
+mod lanes;
 mod line;
 mod operations;
 mod parameters;
@@ -203,6 +230,7 @@ mod refusal;
 
 pub use book::{Account, Book, ACCOUNT_HEAD, ACCOUNT_MAX};
 pub use choice::{choose, Choice, Limits};
+pub use lanes::{Lanes, LANES_TIME_COSTS, LANE_COUNTS, LANE_ROWS_MIN};
 pub use line::{read_line, write_line, Line, KEY_MAX, LINE_MAX, SALT_MAX};
 pub use lyra2_memory::{Granted, Memory, NoMemory};
 pub use operations::{

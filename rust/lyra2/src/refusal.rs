@@ -1,5 +1,6 @@
 //! The refusals: their numbers and their sentences.
 
+use crate::lanes::LANE_COUNTS;
 use crate::parameters::{
     COLUMNS, KEY_LENGTHS, PASSWORD_LENGTHS, ROTATIONS, ROUNDS, ROWS, SALT_LENGTHS, TIME_COSTS,
 };
@@ -16,7 +17,7 @@ pub enum Refusal {
     PasswordLength = 2,
     /// The salt is too short.
     SaltTooShort = 3,
-    /// T is above its limit.
+    /// T is above its limit, or 0 with lanes.
     TimeCost = 4,
     /// R is outside its limits.
     Rows = 5,
@@ -49,11 +50,13 @@ pub enum Refusal {
     NoAccount = 18,
     /// A book's bytes are too few for the accounts that it would have.
     BookFull = 19,
+    /// The number of lanes is outside its limits, or R is not a multiple of twice that number, or too small for it.
+    Lanes = 20,
 }
 
 impl Refusal {
     /// Every refusal, by number. The order of an operation's checks is another; its documentation gives it.
-    pub const ALL: [Refusal; 19] = [
+    pub const ALL: [Refusal; 20] = [
         Refusal::KeyLength,
         Refusal::PasswordLength,
         Refusal::SaltTooShort,
@@ -73,6 +76,7 @@ impl Refusal {
         Refusal::BookForm,
         Refusal::NoAccount,
         Refusal::BookFull,
+        Refusal::Lanes,
     ];
 
     /// The refusal's number.
@@ -93,6 +97,7 @@ impl Refusal {
 
 const LINE_FORM: &str = "the line must be of the form $lyra2$t=T,r=R,c=C$SALT$KEY";
 const BOOK_FORM: &str = "the book must be whole accounts within the limits, no number twice";
+const ROWS_OF_LANES: &str = ", and R a multiple of 2*p, at least 4*p";
 
 impl fmt::Display for Refusal {
     fn fmt(&self, f: &mut fmt::Formatter<'_>) -> fmt::Result {
@@ -103,7 +108,7 @@ impl fmt::Display for Refusal {
                 let least = SALT_LENGTHS.start();
                 return write!(f, "the salt must be at least {least} bytes long");
             }
-            Refusal::TimeCost => ("the time cost T must be", TIME_COSTS, ""),
+            Refusal::TimeCost => ("the time cost T must be", TIME_COSTS, ", with lanes not 0"),
             Refusal::Rows => ("the number of rows R must be", ROWS, ""),
             Refusal::Columns => ("the number of columns C must be", COLUMNS, ""),
             Refusal::MatrixWords => {
@@ -130,6 +135,7 @@ impl fmt::Display for Refusal {
             Refusal::BookForm => return f.write_str(BOOK_FORM),
             Refusal::NoAccount => return f.write_str("the book has no account of this number"),
             Refusal::BookFull => return f.write_str("the book must have room for the account"),
+            Refusal::Lanes => ("the lanes p must be", LANE_COUNTS, ROWS_OF_LANES),
         };
         write!(f, "{what} {} to {}{unit}", limits.start(), limits.end())
     }

@@ -353,15 +353,15 @@ fn walk_questions() {
 }
 
 #[test]
-fn refusals_are_numbered_from_1_to_19_and_each_has_its_sentence() {
+fn refusals_are_numbered_from_1_to_20_and_each_has_its_sentence() {
     let numbers = Refusal::ALL.map(Refusal::number);
-    assert!(numbers.into_iter().eq(1..=19), "{numbers:?}");
+    assert!(numbers.into_iter().eq(1..=20), "{numbers:?}");
     let sentences = Refusal::ALL.map(|refusal| refusal.to_string());
     let named = [
         "1 to 1024",
         "0 to 1024",
         "at least 8 bytes",
-        "T must be 0 to 255",
+        "T must be 0 to 255, with lanes not 0",
         "R must be 3 to 16384",
         "C must be 1 to 256",
         "12*R*C words",
@@ -377,6 +377,7 @@ fn refusals_are_numbered_from_1_to_19_and_each_has_its_sentence() {
         "whole accounts within the limits, no number twice",
         "no account of this number",
         "room for the account",
+        "p must be 1 to 8, and R a multiple of 2*p, at least 4*p",
     ];
     for (sentence, limit) in sentences.iter().zip(named) {
         assert!(sentence.contains(limit), "{sentence}");
