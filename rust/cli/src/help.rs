@@ -13,6 +13,12 @@ pub const SETTINGS: &str =
     "A key goes with the rounds, the rotation and the mixer that it was made with, and does not show them: \
 `lyra2 check` has to be given those of `lyra2 derive`.";
 
+/// What --lanes does.
+pub const LANES: &str =
+    "With --lanes the key is that of P sponges, which share the rows, read each other's and run in turn; docs/LANES.md \
+describes it. The rounds, the rotation and the mixer are then the usual ones and not given. Such a key does not show its lanes \
+either; a login line, a book and an end-state file have none.";
+
 /// A line made and used.
 pub const LINE_EXAMPLE: &str = "Example, in which a password is typed twice and then once:\n    \
 lyra2 line --time 1 --rows 1024 --columns 64 --key-length 32 --output line\n    \

@@ -7,6 +7,7 @@
 mod book;
 mod choice;
 mod commands;
+mod edition;
 mod end_state;
 mod estimate;
 mod exclusive;

@@ -2,6 +2,7 @@
 //!
 //! The structs have no documentation comments, since clap would take those for the help of the commands they are in.
 
+use crate::edition::Edition;
 use crate::failure::Failure;
 use crate::hex;
 use crate::mixer;
@@ -12,7 +13,8 @@ use crate::secret::Secret;
 use clap::builder::{PossibleValuesParser, TypedValueParser};
 use clap::{ArgGroup, Args};
 use lyra2::{
-    Mixer, Parameters, Settings, KEY_LENGTHS, SALT_MAX, USUAL_MIXER, USUAL_ROTATION, USUAL_ROUNDS,
+    Lanes, Mixer, Parameters, Settings, KEY_LENGTHS, SALT_MAX, USUAL_MIXER, USUAL_ROTATION,
+    USUAL_ROUNDS,
 };
 use std::ffi::OsString;
 use std::path::PathBuf;
@@ -77,6 +79,26 @@ impl SettingsOptions {
             rounds: self.rounds.rounds,
             rotation: self.rotation,
             mixer: self.mixer.mixer,
+        }
+    }
+}
+
+#[derive(Args)]
+pub struct LanesOption {
+    /// Several lanes, 1 to 8, with T from 1 and R a multiple of 2*P, at least 4*P; one lane is not the same as no --lanes
+    #[arg(long, value_name = "P", value_parser = decimal, allow_negative_numbers = true)]
+    lanes: Option<usize>,
+}
+
+impl LanesOption {
+    /// Lanes with the T, R and C of these settings, or the settings where no lanes are given.
+    pub fn edition(&self, settings: Settings) -> Edition {
+        match self.lanes {
+            Some(count) => Edition::Lanes(Lanes {
+                parameters: settings.parameters,
+                count,
+            }),
+            None => Edition::Single(settings),
         }
     }
 }

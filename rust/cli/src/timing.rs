@@ -1,16 +1,21 @@
 //! Derivations timed on the spot, for whatever tells seconds.
 
-use lyra2::{Counts, Refusal, Settings};
+use crate::edition::Edition;
+use lyra2::{Counts, Refusal};
 use std::time::Instant;
 
 /// How often a derivation is timed; its median counts, so that one disturbance does not.
 pub const TURNS: usize = 3;
 
-/// The seconds of a derivation with settings that no check refuses, over a matrix that is there, and its counts.
-/// Password and salt change nothing that matters.
-pub fn derivation(settings: Settings, matrix: &mut [u64]) -> Result<(f64, Counts), Refusal> {
+/// The seconds of a derivation that no check refuses, over a matrix that is there, and its counts. Password and salt
+/// change nothing that matters.
+pub fn derivation(
+    edition: impl Into<Edition>,
+    matrix: &mut [u64],
+) -> Result<(f64, Counts), Refusal> {
+    let edition = edition.into();
     let began = Instant::now();
-    let counts = lyra2::derive(b"", b"saltsalt", settings, &mut [0; 32], matrix)?;
+    let counts = edition.derive(b"", b"saltsalt", &mut [0; 32], matrix)?;
     Ok((began.elapsed().as_secs_f64(), counts))
 }
 

@@ -6,6 +6,9 @@ use clap::Command;
 use std::error::Error;
 use std::ffi::OsString;
 
+/// The option of some commands that leaves no place for the settings.
+const LANES: &str = "--lanes";
+
 /// A command, and how it is called.
 pub struct Named<'a> {
     /// Its name, after that of the command that it belongs to.
@@ -73,6 +76,9 @@ fn unknown_argument(
     if given.starts_with('-') && !is_operand(&given, arguments) {
         let name = option_name(&given);
         return match text(error, ContextKind::SuggestedArg).as_str() {
+            _ if name == LANES => {
+                format!("unknown option {name:?}; derive, check and cost alone have lanes")
+            }
             "" => format!("unknown option {name:?}"),
             near => format!("unknown option {name:?}; is {near} meant?"),
         };
@@ -124,7 +130,13 @@ fn conflict(error: &clap::Error) -> String {
     let others = texts(error, ContextKind::PriorArg);
     let other = others.first().map(|other| argument_name(other));
     match other {
-        Some(other) if other != name => format!("{name} and {other} are both given"),
+        Some(other) if other != name => {
+            let both = format!("{name} and {other} are both given");
+            match [&*name, &*other].contains(&LANES) {
+                true => format!("{both}; lanes go with the usual rounds, rotation and mixer"),
+                false => both,
+            }
+        }
         _ => format!("{name} is given twice"),
     }
 }

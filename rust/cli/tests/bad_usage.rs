@@ -107,12 +107,12 @@ fn numbers_of_accounts() {
 #[test]
 fn options() {
     says(
-        &format!("{DERIVE} --lanes 3"),
-        "lyra2 derive: unknown option \"--lanes\"",
+        &format!("{DERIVE} --threads 3"),
+        "lyra2 derive: unknown option \"--threads\"",
     );
     says(
-        &format!("{DERIVE} --lanes=3"),
-        "lyra2 derive: unknown option \"--lanes\"",
+        &format!("{DERIVE} --threads=3"),
+        "lyra2 derive: unknown option \"--threads\"",
     );
     says(
         &format!("{DERIVE} --row 3"),

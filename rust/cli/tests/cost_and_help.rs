@@ -152,7 +152,7 @@ fn every_command_has_its_help_three_ways() {
 fn the_help_names_the_options_that_there_are() {
     let options =
         "password-file salt salt-file time rows columns rounds rotation mixer key-length key \
-                   key-file output password-length salt-length line-file memory words budget seconds column-counts book number";
+                   key-file output password-length salt-length line-file memory words budget seconds column-counts book number lanes";
     for command in COMMANDS {
         let help = help_of(command);
         for option in words(options) {
@@ -219,7 +219,14 @@ fn completions_name_every_command() {
         for name in COMMANDS.into_iter().flat_map(words) {
             assert!(script.contains(name), "{shell}: {name}");
         }
-        for option in ["key-length", "rounds", "rotation", "mixer", "number"] {
+        for option in [
+            "key-length",
+            "rounds",
+            "rotation",
+            "mixer",
+            "lanes",
+            "number",
+        ] {
             assert!(script.contains(option), "{shell}: {option}");
         }
         // Not every shell's script completes values.

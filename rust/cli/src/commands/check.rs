@@ -2,7 +2,7 @@
 
 use crate::failure::Failure;
 use crate::help;
-use crate::input::InputOptions;
+use crate::input::LanesInputOptions;
 use crate::options::StoredKeyOptions;
 use crate::outcome::Outcome;
 use crate::password::Typed;
@@ -13,6 +13,7 @@ use clap::Args;
 #[command(after_help = help::paragraphs(&[
     "A key as long as the stored one is derived; yes is printed if they are the same, else no.",
     help::SETTINGS,
+    help::LANES,
     help::PASSWORD,
     help::YES_OR_NO_STATUS,
 ]))]
@@ -20,7 +21,7 @@ pub struct Check {
     #[command(flatten)]
     key: StoredKeyOptions,
     #[command(flatten)]
-    input: InputOptions,
+    input: LanesInputOptions,
 }
 
 impl Check {

@@ -1,15 +1,19 @@
 //! `lyra2 cost`: what a derivation spends, and about how long it takes.
 
+use crate::edition::Edition;
 use crate::failure::Failure;
-use crate::options::{decimal, CostOptions, KeyLengthOption, MixerOption, RoundsOption};
+use crate::options::{
+    decimal, CostOptions, KeyLengthOption, LanesOption, MixerOption, RoundsOption,
+};
 use crate::outcome::Outcome;
 use crate::timing::in_digits;
 use crate::{estimate, help};
-use clap::Args;
+use clap::{ArgGroup, Args};
 use lyra2::{Lengths, Settings};
 
 /// Tell what a derivation spends in calls, memory and time
 #[derive(Args)]
+#[command(group = ArgGroup::new("lanes alone").args(["lanes"]).conflicts_with_all(["rounds", "mixer"]))]
 #[command(after_help = help::paragraphs(&[
     "The full calls, the reduced calls and the rounds of a derivation with these numbers are printed, the bytes of the \
      matrix and of the visit record, and the expected seconds. No password is asked for, and no rotation, which changes \
@@ -17,6 +21,8 @@ use lyra2::{Lengths, Settings};
     "The seconds are an estimate: a derivation with the same rounds of a reduced call and the same mixer over a matrix of \
      at most 6 MiB is timed three times on the spot, and its median is scaled by the number of reduced calls. Setting \
      memory aside comes on top, and a matrix beyond the processor's caches or a busy machine takes longer.",
+    "With --lanes the calls are those of all lanes together, which run in turn, and there is no visit record. Rounds and mixer \
+     are then the usual ones and not given.",
     help::STATUS,
 ]))]
 pub struct Cost {
@@ -26,6 +32,8 @@ pub struct Cost {
     rounds: RoundsOption,
     #[command(flatten)]
     mixer: MixerOption,
+    #[command(flatten)]
+    lanes: LanesOption,
     #[command(flatten)]
     key: KeyLengthOption,
     /// Bytes of the password, 0 to 1024
@@ -43,25 +51,33 @@ impl Cost {
             password: self.password_length,
             salt: self.salt_length,
         };
-        let parameters = self.costs.parameters();
-        let rounds = self.rounds.rounds;
-        let counts = lyra2::cost(lengths, parameters, rounds)?;
+        let edition = self.edition();
+        let parameters = edition.parameters();
+        let counts = edition.cost(lengths).map_err(|no| edition.failure(no))?;
         let bytes = |words: Option<usize>| 8 * words.map_or(0, |words| words as u64);
-        let settings = Settings {
-            rounds,
-            mixer: self.mixer.mixer,
-            ..parameters.into()
+        let record = match edition {
+            Edition::Single(_) => {
+                format!("record bytes: {}\n", bytes(parameters.record_words()))
+            }
+            Edition::Lanes(_) => String::new(),
         };
-        let seconds = estimate::seconds(settings, counts)?;
+        let seconds = estimate::seconds(edition, counts)?;
         Ok(Outcome::result(format!(
-            "full calls: {}\nreduced calls: {}\nrounds: {}\nmatrix bytes: {}\nrecord bytes: {}\n\
+            "full calls: {}\nreduced calls: {}\nrounds: {}\nmatrix bytes: {}\n{record}\
              expected seconds: {} (an estimate, from a derivation timed just now)\n",
             counts.full,
             counts.reduced,
             counts.rounds,
             bytes(parameters.matrix_words()),
-            bytes(parameters.record_words()),
             in_digits(seconds),
         )))
+    }
+
+    fn edition(&self) -> Edition {
+        self.lanes.edition(Settings {
+            rounds: self.rounds.rounds,
+            mixer: self.mixer.mixer,
+            ..self.costs.parameters().into()
+        })
     }
 }

@@ -1,7 +1,7 @@
 //! `lyra2 derive`: a key from a password.
 
 use crate::failure::Failure;
-use crate::input::InputOptions;
+use crate::input::LanesInputOptions;
 use crate::options::KeyLengthOption;
 use crate::outcome::Outcome;
 use crate::password::Typed;
@@ -14,6 +14,7 @@ use clap::Args;
 #[command(after_help = help::paragraphs(&[
     "The key is printed as one line of hexadecimal digits in lower case.",
     help::SETTINGS,
+    help::LANES,
     help::PASSWORD,
     help::TYPED_TWICE,
     help::STATUS,
@@ -22,7 +23,7 @@ pub struct Derive {
     #[command(flatten)]
     key: KeyLengthOption,
     #[command(flatten)]
-    input: InputOptions,
+    input: LanesInputOptions,
 }
 
 impl Derive {
@@ -30,7 +31,7 @@ impl Derive {
         let input = self.input.read(Typed::Twice)?;
         input.ask_cost(self.key.key_length)?;
         let mut key = zeros(self.key.key_length);
-        let mut matrix = memory::matrix(input.settings.parameters)?;
+        let mut matrix = memory::matrix(input.settings.parameters())?;
         input.derive(&mut key, &mut matrix)?;
         Ok(Outcome::secret(hex::line(&key)))
     }

@@ -8,6 +8,7 @@ use crate::password::Typed;
 use crate::reading::are_same_file;
 use crate::{help, line};
 use clap::{ArgGroup, Args};
+use lyra2::Settings;
 use std::path::PathBuf;
 
 /// Tell whether a password is that of a login line: yes or no
@@ -42,7 +43,7 @@ impl Login {
         }
         let line = line::read(line_file)?;
         let input = Input {
-            settings: line.parameters.into(),
+            settings: Settings::from(line.parameters),
             salt: line.salt,
             password: self.password.read(Typed::Once)?,
         };

@@ -8,6 +8,7 @@ use crate::password::Typed;
 use crate::secret::Secret;
 use crate::{book, help, memory};
 use clap::Args;
+use lyra2::Settings;
 
 /// Tell whether a password is that of an account: yes or no
 #[derive(Args)]
@@ -32,14 +33,14 @@ impl Check {
         let place = book.find(number)?;
         let account = book.account(place).expect("an account was found there");
         let input = Input {
-            settings: account.parameters.into(),
+            settings: Settings::from(account.parameters),
             salt: Secret::new(account.salt.to_vec()),
             password: self.password.read(Typed::Once)?,
         };
         let key_length = account.key.len();
         input.ask_cost(key_length)?;
         let mut matrix = memory::matrix(account.parameters)?;
-        let checked = input.shown(key_length, |password, _, _| {
+        let checked = input.shown(key_length, |password, _| {
             book.check(password, number, &mut matrix)
         })?;
         Ok(Outcome::yes_or_no(checked.same))
