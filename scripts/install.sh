@@ -34,7 +34,7 @@ mkdir -p "$made"/share/{bash-completion/completions,fish/vendor_completions.d,zs
 cp "$program" "$made/bin/lyra2"
 cp "$archive" "$made/lib/liblyra2.a"
 cp "$root/include/lyra2.h" "$made/include"
-cp "$root/LICENSE" "$root"/examples/{derive_and_check,login_line,choose_costs,account_book}.c "$made/share/doc/lyra2"
+cp "$root/LICENSE" "$root"/examples/{derive_and_check,login_line,choose_costs,account_book,lanes}.c "$made/share/doc/lyra2"
 
 ask() { # FILE ARGUMENT.., which the program answers
     "$program" "${@:2}" >"$made/$1" </dev/null || fault "the program does not answer to: ${*:2}"

@@ -207,4 +207,55 @@ for arguments in '' 'saltsalt 1 3 1' 'saltsalt 1 3 1 32 1' 'saltsalt x 3 1 32' '
     same "status of '$arguments'" 2 "$status"
     grep -q '^usage: ' "$work/log" || { echo "no usage for '$arguments'"; exit 1; }
 done
-echo "the C examples print the key $key, its login line, a choice of costs and a book's accounts, and refuse with their sentences"
+
+# ---- the example of lanes: one number of them says yes, and each refusal
+cc "${flags[@]}" examples/lanes.c "$library" -o "$work/lanes"
+lanes() { # STATUS DUE PASSWORD ARGUMENT..
+    local status=0 found
+    found=$(printf '%s' "$3" | "$work/lanes" "${@:4}" 2>&1) || status=$?
+    same "the lanes of ${*:4}" "$2" "$found"
+    same "status of the lanes of ${*:4}" "$1" "$status"
+}
+shown=$(cat examples/lanes.out)
+lanes 0 "$shown" "$password" 'salt of 16 bytes' 1 256 64 4 32
+same 'answers of the example of lanes' 'lanes 1: no
+lanes 2: no
+lanes 4: yes
+lanes 8: no
+the single sponge: no' "$(tail -n 5 examples/lanes.out)"
+while IFS= read -r line; do
+    grep -qF "    $line" docs/LINKING.md || { echo "docs/LINKING.md does not show '$line'"; exit 1; }
+done <<<"$shown"
+for number in 1 2 3 4 6 8; do
+    found=$(printf '%s' "$password" | "$work/lanes" saltsalt 1 48 3 $number 32)
+    same "answers to the key of $number lanes" "lanes 1: no
+lanes 2: no
+lanes 3: no
+lanes 4: no
+lanes 6: no
+lanes 8: no
+the single sponge: no" "$(sed "1,2d; s/^lanes $number: yes$/lanes $number: no/" <<<"$found")"
+    grep -qx "lanes $number: yes" <<<"$found" || { echo "$number lanes do not find their key"; exit 1; }
+done
+lanes 1 'refused 1: the key has to have 1 to 1024 bytes' "$password" saltsalt 0 2 0 0 0
+lanes 1 'refused 2: the password may have at most 1024 bytes' "$(printf '%01025d' 0)" saltsalt 0 2 0 0 32
+lanes 1 'refused 3: the salt has to have at least 8 bytes' "$password" saltsal 0 2 0 0 32
+lanes 1 'refused 10: the salt may have at most 64 bytes' "$password" "$(printf '%065d' 0)" 0 2 0 0 32
+for time in 0 256; do
+    lanes 1 'refused 4: the time cost may be at most 255, and with lanes not 0' "$password" saltsalt $time 2 0 0 32
+done
+lanes 1 'refused 5: the number of rows has to be 3 to 16384' "$password" saltsalt 1 2 0 0 32
+lanes 1 'refused 6: the number of columns has to be 1 to 256' "$password" saltsalt 1 3 0 0 32
+for shared in '3 1' '4 0' '6 2' '8 4' '9 3' '10 2' '36 9' '4 18446744073709551615'; do
+    lanes 1 'refused 20: the lanes have to be 1 to 8, the rows a multiple of 2 * lanes from 4 * lanes on' \
+        "$password" saltsalt 1 "${shared% *}" 1 "${shared#* }" 32
+done
+for arguments in '' 'saltsalt 1 4 1 1' 'saltsalt 1 4 1 1 32 1' 'saltsalt 1 4 1 x 32' 'saltsalt 1 4 1 -1 32'; do
+    status=0
+    # The words are the arguments.
+    # shellcheck disable=SC2086
+    "$work/lanes" $arguments </dev/null >"$work/out" 2>"$work/log" || status=$?
+    same "status of '$arguments'" 2 "$status"
+    grep -q '^usage: ' "$work/log" || { echo "no usage for '$arguments'"; exit 1; }
+done
+echo "the C examples print the key $key, its login line, a choice of costs, a book's accounts and a key of lanes, and refuse with their sentences"

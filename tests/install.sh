@@ -27,6 +27,7 @@ listed='0755 bin/lyra2
 0644 share/doc/lyra2/choose_costs.c
 0644 share/doc/lyra2/derive_and_check.c
 0644 share/doc/lyra2/installed.txt
+0644 share/doc/lyra2/lanes.c
 0644 share/doc/lyra2/login_line.c
 0644 share/fish/vendor_completions.d/lyra2.fish
 0644 share/man/man1/lyra2.1
@@ -45,7 +46,7 @@ same 'what the install says' "$(sed "s|^[0-7]* |installed $prefix/|" <<<"$listed
 cmp "$root/target/staticlib/libderivation_export.a" "$prefix/lib/liblyra2.a"
 cmp "$root/include/lyra2.h" "$prefix/include/lyra2.h"
 cmp "$root/LICENSE" "$prefix/share/doc/lyra2/LICENSE"
-for example in derive_and_check login_line choose_costs account_book; do
+for example in derive_and_check login_line choose_costs account_book lanes; do
     cmp "$root/examples/$example.c" "$prefix/share/doc/lyra2/$example.c"
 done
 while read -r _ file; do
@@ -89,6 +90,10 @@ example_prints() { # WHAT
     cc -std=c99 -Wall -Werror $(pkg-config --cflags lyra2) account_book.c $(pkg-config --libs lyra2) -o accounts
     same 'the C example of a book' "$(cat "$root/examples/account_book.out")" \
         "$(printf 'correct horse' | ./accounts 'salt of 16 bytes' 1 256 64 32)"
+    # shellcheck disable=SC2046
+    cc -std=c99 -Wall -Werror $(pkg-config --cflags lyra2) lanes.c $(pkg-config --libs lyra2) -o lanes
+    same 'the C example of lanes' "$(cat "$root/examples/lanes.out")" \
+        "$(printf 'correct horse' | ./lanes 'salt of 16 bytes' 1 256 64 4 32)"
 )
 export PKG_CONFIG_PATH=$prefix/lib/pkgconfig
 eval "cc -std=c99 -Wall -Werror $(pkg-config --cflags lyra2) derive_and_check.c $(pkg-config --libs lyra2) -o example"
