@@ -5,10 +5,12 @@
 
 mod common;
 
-use common::{settings, size};
-use lyra2::{Lengths, Parameters};
+use common::{lanes, settings, size};
+use lyra2::{Lanes, Lengths, Parameters};
 use lyra2_reference::vectors::{read, run, Case, Coverage, Question, Subject};
-use lyra2_reference::{Checked, Choice, Counts, Inputs, LineParts, LineValues, Recorded, Refusal};
+use lyra2_reference::{
+    Checked, Choice, Counts, Inputs, LaneInputs, LineParts, LineValues, Recorded, Refusal,
+};
 
 const FILE: &str = concat!(env!("CARGO_MANIFEST_DIR"), "/../../vectors/lyra2.txt");
 /// A matrix of more words belongs to the lines that lend 400 MB, which derivation-link's tests run.
@@ -25,6 +27,13 @@ fn counts(counts: lyra2::Counts) -> Counts {
         full: counts.full,
         reduced: counts.reduced,
         rounds: counts.rounds,
+    }
+}
+
+fn checked(answer: lyra2::Checked) -> Checked {
+    Checked {
+        matches: answer.same,
+        counts: counts(answer.counts),
     }
 }
 
@@ -72,10 +81,6 @@ impl Subject for Safe {
     ) -> Result<Checked, Refusal> {
         let (password, salt) = (inputs.password, inputs.salt);
         let answer = lyra2::check(password, salt, settings(inputs), stored, matrix);
-        let checked = |answer: lyra2::Checked| Checked {
-            matches: answer.same,
-            counts: counts(answer.counts),
-        };
         answer.map(checked).map_err(refusal)
     }
 
@@ -140,6 +145,43 @@ impl Subject for Safe {
         let answer = lyra2::write_line(parameters, parts.salt, parts.key, line);
         Some(answer.map(|length| length as u64).map_err(refusal))
     }
+
+    fn lanes_derive(
+        &self,
+        inputs: &LaneInputs,
+        key: &mut [u8],
+        matrix: &mut [u64],
+    ) -> Option<Result<Counts, Refusal>> {
+        let answer = lanes(inputs).derive(inputs.password, inputs.salt, key, matrix);
+        Some(answer.map(counts).map_err(refusal))
+    }
+
+    fn lanes_check(
+        &self,
+        inputs: &LaneInputs,
+        stored: &[u8],
+        matrix: &mut [u64],
+    ) -> Option<Result<Checked, Refusal>> {
+        let answer = lanes(inputs).check(inputs.password, inputs.salt, stored, matrix);
+        Some(answer.map(checked).map_err(refusal))
+    }
+
+    fn lanes_cost(
+        &self,
+        given: &lyra2_reference::Parameters,
+        p: u64,
+    ) -> Option<Result<Counts, Refusal>> {
+        let lanes = Lanes {
+            parameters: Parameters {
+                time: size(given.t),
+                rows: size(given.r),
+                columns: size(given.c),
+            },
+            count: size(p),
+        };
+        let lengths = lengths([given.key_len, given.password_len, given.salt_len]);
+        Some(lanes.cost(lengths).map(counts).map_err(refusal))
+    }
 }
 
 fn is_wanted(case: &Case) -> bool {
@@ -147,7 +189,11 @@ fn is_wanted(case: &Case) -> bool {
         Question::DeriveRecorded { given, .. }
         | Question::Derive { given, .. }
         | Question::Check { given, .. } => given.matrix_words <= MANY_WORDS,
+        Question::LanesDerive { given, .. } | Question::LanesCheck { given, .. } => {
+            given.matrix_words <= MANY_WORDS
+        }
         Question::Cost { .. }
+        | Question::LanesCost { .. }
         | Question::Walk { .. }
         | Question::LineRead { .. }
         | Question::LineWrite { .. }
@@ -174,7 +220,7 @@ fn every_line_but_the_largest_matrices_and_the_walk_program() {
         assert_eq!(outcome, Ok(Coverage::Whole), "line {line}");
     }
     assert_eq!(all - lines.len(), 77 + 8 + 807);
-    assert!(lines.len() >= 4900);
+    assert!(lines.len() >= 6600, "{}", lines.len());
 }
 
 /// The crate's documentation shows the first bytes of this key.
