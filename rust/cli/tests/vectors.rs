@@ -10,9 +10,9 @@ use common::end_state::{mixer_number, EndState};
 use common::{hex, lyra2, Run, TemporaryFile};
 use lyra2_reference::vectors::write::mixer_name;
 use lyra2_reference::vectors::{
-    checksum, read, Answer, Case, Given, LentBook, NamedSettings, Question,
+    checksum, read, Answer, Bytes, Case, Given, LanesGiven, LentBook, NamedSettings, Question,
 };
-use lyra2_reference::{book_find, check, Counts, Inputs, Refusal, Settings};
+use lyra2_reference::{book_find, check, Counts, Inputs, Parameters, Refusal, Settings};
 
 const FILE: &str = concat!(env!("CARGO_MANIFEST_DIR"), "/../../vectors/lyra2.txt");
 /// A matrix of more words belongs to the lines that lend 400 MB.
@@ -42,26 +42,40 @@ fn can_be_asked(case: &Case) -> bool {
     !short.contains(&case.answer) && !many_words
 }
 
-/// Runs a command on the inputs of a case: the password by standard input or by a file, and the salt by the
-/// command line or by a file, in turn. The settings are given where the line has them.
+/// Runs a command on the inputs of a case. The settings are given where the line has them.
 fn run_on(command: &str, given: &Given, number: u64, others: &[String]) -> Run {
-    let (mut password, salt) = (given.password.to_vec(), given.salt.to_vec());
-    let password_file = TemporaryFile::holding(&password);
-    let salt_file = TemporaryFile::holding(&salt);
-    let mut arguments: Vec<String> = [
-        [command.to_string(), format!("--time={}", given.t)],
-        [
-            format!("--rows={}", given.r),
-            format!("--columns={}", given.c),
-        ],
-    ]
-    .concat();
+    let mut arguments = vec![command.to_string()];
+    arguments.extend(costs([given.t, given.r, given.c]));
     if let Some(NamedSettings { rho, omega, mixer }) = given.settings {
         arguments.push(format!("--rounds={rho}"));
         arguments.push(format!("--rotation={omega}"));
         arguments.extend(mixer.map(|mixer| format!("--mixer={}", mixer_name(mixer))));
     }
     arguments.extend_from_slice(others);
+    run_with(arguments, [&given.password, &given.salt], number)
+}
+
+/// The same with lanes.
+fn run_on_lanes(command: &str, given: &LanesGiven, number: u64, other: String) -> Run {
+    let mut arguments = vec![command.to_string(), format!("--lanes={}", given.p), other];
+    arguments.extend(costs([given.t, given.r, given.c]));
+    run_with(arguments, [&given.password, &given.salt], number)
+}
+
+fn costs([t, r, c]: [u64; 3]) -> [String; 3] {
+    [
+        format!("--time={t}"),
+        format!("--rows={r}"),
+        format!("--columns={c}"),
+    ]
+}
+
+/// Runs the program with a password by standard input or by a file, and a salt by the command line or by a file, in
+/// turn.
+fn run_with(mut arguments: Vec<String>, [password, salt]: [&Bytes; 2], number: u64) -> Run {
+    let (mut password, salt) = (password.to_vec(), salt.to_vec());
+    let password_file = TemporaryFile::holding(&password);
+    let salt_file = TemporaryFile::holding(&salt);
     if number.is_multiple_of(2) {
         arguments.push(format!("--password-file={}", password_file.name()));
     } else {
@@ -198,23 +212,35 @@ fn checks() {
         let Question::Check { given, stored } = &case.question else {
             continue;
         };
-        let stored = hex(&stored.to_vec());
-        let file = TemporaryFile::holding(stored.as_bytes());
-        let key = if case.number % 5 < 2 || stored.len() > 10_000 {
-            format!("--key-file={}", file.name())
-        } else {
-            format!("--key={stored}")
-        };
+        let (_file, key) = stored_key(stored, case.number);
         let run = run_on("check", given, case.number, &[key]);
-        if let Answer::Checked { matches, .. } = case.answer {
-            let (status, output) = if matches { (0, "yes\n") } else { (1, "no\n") };
-            assert_eq!(run.status, Some(status), "case {}", case.number);
-            assert_eq!((run.output.as_str(), run.error.as_str()), (output, ""));
-        } else {
-            assert!(is_refused(&run, &case.answer, case.number));
-        }
+        assert_answered(&run, case);
     }
     assert_many(&cases, 460, 140);
+}
+
+/// The option with a stored key, by the command line or by a file, in turn, and the file.
+fn stored_key(stored: &Bytes, number: u64) -> (TemporaryFile, String) {
+    let stored = hex(&stored.to_vec());
+    let file = TemporaryFile::holding(stored.as_bytes());
+    let option = if number % 5 < 2 || stored.len() > 10_000 {
+        format!("--key-file={}", file.name())
+    } else {
+        format!("--key={stored}")
+    };
+    (file, option)
+}
+
+/// Requires the answer of a check, or its refusal.
+#[track_caller]
+fn assert_answered(run: &Run, case: &Case) {
+    if let Answer::Checked { matches, .. } = case.answer {
+        let (status, output) = if matches { (0, "yes\n") } else { (1, "no\n") };
+        assert_eq!(run.status, Some(status), "case {}", case.number);
+        assert_eq!((run.output.as_str(), run.error.as_str()), (output, ""));
+    } else {
+        assert!(is_refused(run, &case.answer, case.number));
+    }
 }
 
 #[test]
@@ -224,32 +250,90 @@ fn cost_questions() {
         let Question::Cost { given, rho } = &case.question else {
             continue;
         };
-        let mut arguments = vec![
-            "cost".to_string(),
-            format!("--key-length={}", given.key_len),
-            format!("--password-length={}", given.password_len),
-            format!("--salt-length={}", given.salt_len),
-            format!("--time={}", given.t),
-            format!("--rows={}", given.r),
-            format!("--columns={}", given.c),
-        ];
-        arguments.extend(rho.map(|rho| format!("--rounds={rho}")));
-        let run = lyra2(&arguments, b"");
-        if let Answer::Cost(counts) = &case.answer {
-            let [full, reduced, rounds] = listed(counts);
-            let start = format!(
-                "full calls: {full}\nreduced calls: {reduced}\nrounds: {rounds}\n\
-                 matrix bytes: {}\nrecord bytes: {}\nexpected seconds: ",
-                8 * given.matrix_words(),
-                8 * given.record_words()
-            );
-            let output = run.result();
-            assert!(output.starts_with(&start), "case {}: {output}", case.number);
+        let option = rho.map(|rho| format!("--rounds={rho}"));
+        let bytes = given.record_words().saturating_mul(8);
+        let record = format!("record bytes: {bytes}\n");
+        assert_cost(case, given, option, &record);
+    }
+    assert_many(&cases, 280, 40);
+}
+
+/// Requires the lines of a cost, the record's among them, or its refusal.
+#[track_caller]
+fn assert_cost(case: &Case, given: &Parameters, option: Option<String>, record: &str) {
+    let mut arguments = vec![
+        "cost".to_string(),
+        format!("--key-length={}", given.key_len),
+        format!("--password-length={}", given.password_len),
+        format!("--salt-length={}", given.salt_len),
+    ];
+    arguments.extend(costs([given.t, given.r, given.c]));
+    arguments.extend(option);
+    let run = lyra2(&arguments, b"");
+    if let Answer::Cost(counts) = &case.answer {
+        let [full, reduced, rounds] = listed(counts);
+        let start = format!(
+            "full calls: {full}\nreduced calls: {reduced}\nrounds: {rounds}\n\
+             matrix bytes: {}\n{record}expected seconds: ",
+            8 * given.matrix_words(),
+        );
+        let output = run.result();
+        assert!(output.starts_with(&start), "case {}: {output}", case.number);
+    } else {
+        assert!(is_refused(&run, &case.answer, case.number));
+    }
+}
+
+#[test]
+fn derivations_with_lanes() {
+    let cases = cases(|question| matches!(question, Question::LanesDerive { .. }));
+    for case in &cases {
+        let Question::LanesDerive { given, key_len } = &case.question else {
+            continue;
+        };
+        let length = format!("--key-length={key_len}");
+        let run = run_on_lanes("derive", given, case.number, length);
+        if let Answer::Derived { key, .. } = &case.answer {
+            assert_eq!(run.result(), hex(key) + "\n", "case {}", case.number);
         } else {
             assert!(is_refused(&run, &case.answer, case.number));
         }
     }
-    assert_many(&cases, 280, 40);
+    assert_some(&cases, 150, 40);
+}
+
+#[test]
+fn checks_with_lanes() {
+    let cases = cases(|question| matches!(question, Question::LanesCheck { .. }));
+    for case in &cases {
+        let Question::LanesCheck { given, stored } = &case.question else {
+            continue;
+        };
+        let (_file, key) = stored_key(stored, case.number);
+        assert_answered(&run_on_lanes("check", given, case.number, key), case);
+    }
+    assert_some(&cases, 60, 40);
+}
+
+#[test]
+fn cost_questions_with_lanes() {
+    let cases = cases(|question| matches!(question, Question::LanesCost { .. }));
+    for case in &cases {
+        let Question::LanesCost { given, p } = &case.question else {
+            continue;
+        };
+        assert_cost(case, given, Some(format!("--lanes={p}")), "");
+    }
+    assert_some(&cases, 40, 100);
+}
+
+/// Requires so many cases that are accepted and so many that are refused.
+#[track_caller]
+fn assert_some(cases: &[Case], accepted: usize, refused: usize) {
+    let is_refused = |case: &&Case| matches!(case.answer, Answer::Refused(_));
+    let found = cases.iter().filter(is_refused).count();
+    let counts = (cases.len() - found, found);
+    assert!(counts.0 >= accepted && counts.1 >= refused, "{counts:?}");
 }
 
 #[test]
