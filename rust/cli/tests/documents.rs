@@ -7,10 +7,11 @@ use common::end_state::{summed, EndState};
 use common::line::{encode, Line};
 use common::{hex, lyra2, words, TemporaryFile};
 use lyra2_reference::refusal::{
-    BOOK_ADD_CHECKS, BOOK_CHECK_CHECKS, BOOK_FIND_CHECKS, CHOICE_CHECKS, COST_CHECKS,
-    LINE_READ_CHECKS, LINE_WRITE_CHECKS, PLAIN_CHECKS, RECORDED_CHECKS, WALK_CHECKS,
+    BOOK_ADD_CHECKS, BOOK_CHECK_CHECKS, BOOK_FIND_CHECKS, CHOICE_CHECKS, COST_CHECKS, LANES_CHECKS,
+    LANES_COST_CHECKS, LINE_READ_CHECKS, LINE_WRITE_CHECKS, PLAIN_CHECKS, RECORDED_CHECKS,
+    WALK_CHECKS,
 };
-use lyra2_reference::{derive, Inputs, Refusal, Settings};
+use lyra2_reference::{derive, lanes_derive, walk, Inputs, LaneInputs, Refusal, Settings};
 use std::collections::BTreeMap;
 
 fn document(name: &str) -> String {
@@ -79,6 +80,9 @@ fn the_orders_of_the_checks_are_the_second_programs() {
         ("book_add", BOOK_ADD_CHECKS),
         ("book_remove", BOOK_FIND_CHECKS),
         ("book_check", BOOK_CHECK_CHECKS),
+        ("lanes_derive", LANES_CHECKS),
+        ("lanes_check", LANES_CHECKS),
+        ("lanes_cost", LANES_COST_CHECKS),
     ]
     .map(|(name, checks)| (name.to_string(), listed(checks)))
     .into();
@@ -86,7 +90,7 @@ fn the_orders_of_the_checks_are_the_second_programs() {
     assert_eq!(orders(&header, " *     ", "  "), due);
     let page = document("vectors/README.md");
     assert_eq!(orders(&page, "| `", " | "), due);
-    let code = ["operations", "choice", "line", "book"]
+    let code = ["operations", "choice", "line", "book", "lanes"]
         .map(|name| document(&format!("rust/lyra2/src/{name}.rs")));
     let comments = code.concat();
     let comments = comments
@@ -103,6 +107,8 @@ fn the_orders_of_the_checks_are_the_second_programs() {
         BOOK_FIND_CHECKS,
         BOOK_ADD_CHECKS,
         BOOK_CHECK_CHECKS,
+        LANES_CHECKS,
+        LANES_COST_CHECKS,
     ] {
         let sentence = format!("in the order of the checks: {}.", listed(checks));
         assert!(comments.contains(&sentence), "{sentence}");
@@ -321,6 +327,102 @@ fn the_refused_books_of_the_page() {
     // The damage is all that is wrong with them.
     let first = TemporaryFile::holding(&[b"A", &books[0][1..]].concat());
     lyra2(&["book", "list", "--book", first.name()], b"").result();
+}
+
+/// The page's two commands differ in the lanes alone.
+#[test]
+fn the_example_of_lanes() {
+    let text = document("docs/LANES.md");
+    let password = "correct horse battery staple";
+    let [command] = commands(&text, password)[..] else {
+        panic!("a command is due");
+    };
+    for p in [4, 1] {
+        let inputs = LaneInputs {
+            password: password.as_bytes(),
+            salt: b"0123456789abcdef",
+            t: 1,
+            r: 1024,
+            c: 64,
+            p,
+        };
+        let mut key = [0; 32];
+        let counts = lanes_derive(&inputs, &mut key, &mut vec![0; 12 * 1024 * 64]);
+        let counts = counts.expect("no check refuses");
+        assert!(text.lines().any(|line| line.trim() == hex(&key)), "{p}");
+        let line = command.replace("--lanes 4", &format!("--lanes {p}"));
+        let printed = lyra2(&words(&line), password.as_bytes()).result();
+        assert_eq!(printed, hex(&key) + "\n", "{p}");
+        if p == 4 {
+            let [full, reduced, rounds] =
+                [counts.full, counts.reduced, counts.rounds].map(with_commas);
+            let due = format!("{full} full calls, {reduced} reduced calls and {rounds} rounds");
+            assert!(text.contains(&due), "{due}");
+        }
+    }
+}
+
+/// A number as the pages write it.
+fn with_commas(number: u64) -> String {
+    match number {
+        ..1000 => number.to_string(),
+        _ => format!("{},{:03}", with_commas(number / 1000), number % 1000),
+    }
+}
+
+/// The numbers in the rows of a page's table, whose head starts with this; an empty field is 0 and yes is 1.
+fn table(document: &str, head: &str) -> Vec<Vec<u64>> {
+    let lines = document.lines().skip_while(|line| !line.starts_with(head));
+    let rows = lines.skip(2).take_while(|line| line.starts_with('|'));
+    let fields = |row: &str| -> Vec<u64> {
+        let row = row.trim_matches('|').split('|').map(str::trim);
+        let number = |field: &str| match field {
+            "" => 0,
+            "yes" => 1,
+            field => field.parse().expect("a number"),
+        };
+        row.map(number).collect()
+    };
+    rows.map(fields).collect()
+}
+
+/// The rows of Setup by the walk question, and its meetings by what the page says of them.
+#[test]
+fn the_meetings_of_the_page() {
+    let rows = table(&document("docs/LANES.md"), "| row0 |");
+    assert_eq!(rows.len(), 17);
+    let (mut prev1, mut meetings, mut next) = (0, 0, 4);
+    for (row0, row) in (3..).zip(&rows) {
+        let row1 = walk(20, row0).expect("a row that Setup fills");
+        // 4 from row 3 on, doubled at 15.
+        let sqrt = if row0 < 15 { 4 } else { 8 };
+        let meets = row0 == next;
+        assert_eq!(row[..], [row0, row1, prev1, meetings, sqrt, meets.into()]);
+        if meets {
+            (meetings, next) = (meetings + 1, next + sqrt / 2);
+        }
+        prev1 = row1;
+    }
+}
+
+/// The first stretch of visits has one more than sqrt, the others have sqrt, and the last has what is left.
+#[test]
+fn the_visits_between_meetings_of_the_page() {
+    let text = document("docs/LANES.md");
+    for (n, sqrt) in [(4, 4), (6, 4), (8, 4), (16, 8), (20, 8)] {
+        let (mut stretches, mut first) = (Vec::new(), 0);
+        while first < n {
+            let meeting = if first == 0 { sqrt } else { first - 1 + sqrt };
+            let last = meeting.min(n - 1);
+            stretches.push(match first == last {
+                true => first.to_string(),
+                false => format!("{first} to {last}"),
+            });
+            first = last + 1;
+        }
+        let due = format!("| {n} | {sqrt} | {} |", stretches.join(", then "));
+        assert!(text.lines().any(|line| line == due), "{due}");
+    }
 }
 
 /// tests/c_example.sh holds the example to this.

@@ -11,7 +11,7 @@ use common::line::{encode, Line};
 use common::terminal::Terminal;
 use common::{command, hex, words, TemporaryFile};
 use lyra2_reference::vectors::write::mixer_name;
-use lyra2_reference::{derive_recorded, Inputs, Mixer, Settings};
+use lyra2_reference::{derive_recorded, lanes, Inputs, LaneInputs, Mixer, Settings};
 use std::fs::File;
 use std::io::{PipeReader, PipeWriter, Read, Seek, SeekFrom, Write};
 use std::process::{Command, Stdio};
@@ -54,8 +54,13 @@ fn holds(memory: &[Vec<u8>], wanted: &[u8]) -> bool {
 /// What a derivation works on and gives, as bytes. The recorded one keeps the matrix that the plain one wipes.
 struct Due {
     key: [u8; 64],
-    state: Vec<u8>,
+    /// Of every lane.
+    states: Vec<Vec<u8>>,
     matrix: Vec<u8>,
+}
+
+fn bytes(words: &[u64]) -> Vec<u8> {
+    words.iter().flat_map(|word| word.to_le_bytes()).collect()
 }
 
 impl Due {
@@ -74,10 +79,28 @@ impl Due {
         let (mut key, mut matrix) = ([0; 64], [0; MATRIX_WORDS]);
         let recorded = derive_recorded(&inputs, &mut key, &mut matrix, &mut [0; RECORD_WORDS]);
         let state = recorded.expect("no check refuses").state;
-        let bytes = |words: &[u64]| words.iter().flat_map(|word| word.to_le_bytes()).collect();
         Due {
             key,
-            state: bytes(&state),
+            states: vec![bytes(&state)],
+            matrix: bytes(&matrix),
+        }
+    }
+
+    fn with_lanes(p: u64) -> Due {
+        let inputs = LaneInputs {
+            password: PASSWORD,
+            salt: b"saltsalt",
+            t: 1,
+            r: 16,
+            c: 4,
+            p,
+        };
+        let (mut key, mut matrix) = ([0; 64], [0; MATRIX_WORDS]);
+        let end = lanes::run(&inputs, &mut key, &mut matrix, &mut lanes::in_turn);
+        let states = end.expect("no check refuses").states;
+        Due {
+            key,
+            states: states.iter().map(|state| bytes(state)).collect(),
             matrix: bytes(&matrix),
         }
     }
@@ -102,6 +125,10 @@ fn left_by(line: &str, input: &[u8], text: &str) -> Vec<&'static str> {
 }
 
 fn left_by_mixer(mixer: Mixer, line: &str, input: &[u8], text: &str) -> Vec<&'static str> {
+    left_of(&Due::with(mixer), line, input, text)
+}
+
+fn left_of(due: &Due, line: &str, input: &[u8], text: &str) -> Vec<&'static str> {
     let (reader, writer) = full_pipe();
     let mut program = command();
     program
@@ -112,7 +139,7 @@ fn left_by_mixer(mixer: Mixer, line: &str, input: &[u8], text: &str) -> Vec<&'st
     let mut pipe = child.stdin.take().expect("a pipe");
     pipe.write_all(input).expect("the program reads");
     drop(pipe);
-    let left = traces_left(child.id(), &Due::with(mixer), text);
+    let left = traces_left(child.id(), due, text);
     child.kill().expect("a process of ours");
     child.wait().expect("the program ends");
     drop(reader);
@@ -128,7 +155,11 @@ fn waits_to_print(process: u32) -> bool {
 /// The names of the traces that stay in the memory of a process that waits to print and holds this text. A form of the
 /// key that is in the text stays, of course.
 fn traces_left(process: u32, due: &Due, text: &str) -> Vec<&'static str> {
-    let Due { key, state, matrix } = due;
+    let Due {
+        key,
+        states,
+        matrix,
+    } = due;
     let (digits, letters) = (hex(&key[..30]), encode(&key[..30]));
     // The library holds what it works on in words, so a part of the password or the key is searched for.
     let mut traces = vec![
@@ -136,11 +167,13 @@ fn traces_left(process: u32, due: &Due, text: &str) -> Vec<&'static str> {
         ("the key", &key[..16]),
         ("the key in hexadecimal", digits.as_bytes()),
         ("the key in base 64", letters.as_bytes()),
-        ("the state's start", &state[..24]),
-        ("the state's end", &state[state.len() - 24..]),
         ("the matrix's start", &matrix[..24]),
         ("the matrix's end", &matrix[matrix.len() - 24..]),
     ];
+    for state in states {
+        traces.push(("a state's start", &state[..24]));
+        traces.push(("a state's end", &state[state.len() - 24..]));
+    }
     traces.retain(|(_, trace)| !holds(&[text.into()], trace));
     let began = Instant::now();
     let mut left = vec!["no text"];
@@ -178,6 +211,21 @@ fn of_a_password_from_a_file_nothing_is_left() {
     let file = TemporaryFile::holding(PASSWORD);
     let line = line("derive", &format!("--password-file {}", file.name()));
     assert_eq!(left_by(&line, b"", &key_text(Mixer::Plain)), NOTHING);
+}
+
+#[test]
+fn of_lanes_nothing_is_left() {
+    for p in [1, 2, 4] {
+        let due = Due::with_lanes(p);
+        let lanes = format!("--lanes {p}");
+        let key = hex(&due.key);
+        let left = left_of(&due, &line("derive", &lanes), PASSWORD, &key);
+        assert_eq!(left, NOTHING, "{p}");
+        let file = TemporaryFile::holding(key.as_bytes());
+        let check = line("check", &format!("{lanes} --key-file {}", file.name()));
+        let check = check.replace("--key-length 64", "");
+        assert_eq!(left_of(&due, &check, PASSWORD, file.name()), NOTHING, "{p}");
+    }
 }
 
 /// The limits of a process that started without one on core dumps.
