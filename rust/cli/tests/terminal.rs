@@ -263,13 +263,15 @@ fn nothing_is_typed_for_a_command_that_is_asked_wrongly() {
 
 #[test]
 fn long_work_shows_how_far_it_is() {
-    let terminal = start(&format!("printf pass | lyra2 {LONG}"));
-    terminal.wait_for("deriving [");
-    // Which seconds are shown is up to how busy the machine is.
-    let passed = |second| format!("00:00:{second:02} of about 00:");
-    terminal.wait_until("a second later", || {
-        (1..60).any(|second| terminal.shown().contains(&passed(second)))
-    });
+    for lanes in ["", "--lanes 4"] {
+        let terminal = start(&format!("printf pass | lyra2 {LONG} {lanes}"));
+        terminal.wait_for("deriving [");
+        // Which seconds are shown is up to how busy the machine is.
+        let passed = |second| format!("00:00:{second:02} of about 00:");
+        terminal.wait_until("a second later", || {
+            (1..60).any(|second| terminal.shown().contains(&passed(second)))
+        });
+    }
 }
 
 #[test]
