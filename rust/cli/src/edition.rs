@@ -56,13 +56,14 @@ impl Edition {
     }
 
     /// The cost question.
-    pub fn cost(self, lengths: Lengths) -> Result<Counts, Refusal> {
-        match self {
+    pub fn cost(self, lengths: Lengths) -> Result<Counts, Failure> {
+        let counts = match self {
             Edition::Single(Settings {
                 parameters, rounds, ..
             }) => lyra2::cost(lengths, parameters, rounds),
             Edition::Lanes(lanes) => lanes.cost(lengths),
-        }
+        };
+        counts.map_err(|refusal| self.failure(refusal))
     }
 
     /// The plain derivation.

@@ -89,7 +89,7 @@ impl<S: Copy + Into<Edition>> Input<S> {
             salt: self.salt.len(),
         };
         let edition = self.settings.into();
-        let counts = edition.cost(lengths).map_err(|no| edition.failure(no))?;
+        let counts = edition.cost(lengths)?;
         let (password, salt) = (&self.password, &self.salt);
         match edition.derive(password, salt, &mut zeros(key), &mut []) {
             Ok(_) | Err(Refusal::MatrixWords) => Ok(counts),

@@ -21,8 +21,8 @@ use lyra2::{Lengths, Settings};
     "The seconds are an estimate: a derivation with the same rounds of a reduced call and the same mixer over a matrix of \
      at most 6 MiB is timed three times on the spot, and its median is scaled by the number of reduced calls. Setting \
      memory aside comes on top, and a matrix beyond the processor's caches or a busy machine takes longer.",
-    "With --lanes the calls are those of all lanes together, which run in turn, and there is no visit record. Rounds and mixer \
-     are then the usual ones and not given.",
+    "With --lanes the calls are those of all lanes together, which run in turn, what is timed has as many lanes, and there is no \
+     visit record. Rounds and mixer are then the usual ones and not given.",
     help::STATUS,
 ]))]
 pub struct Cost {
@@ -53,7 +53,7 @@ impl Cost {
         };
         let edition = self.edition();
         let parameters = edition.parameters();
-        let counts = edition.cost(lengths).map_err(|no| edition.failure(no))?;
+        let counts = edition.cost(lengths)?;
         let bytes = |words: Option<usize>| 8 * words.map_or(0, |words| words as u64);
         let record = match edition {
             Edition::Single(_) => {
