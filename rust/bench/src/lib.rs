@@ -10,6 +10,7 @@
 //! | `measure` | the turns in which the programs run, and their times |
 //! | `table`, `machine` | the tables of docs/PERFORMANCE.md and the machine they hold for |
 //! | `settings` | other settings than the usual ones |
+//! | `lanes` | several lanes beside the single sponge |
 //! | `pages`, `fresh` | large pages beside ordinary ones, and a Vec of pages that were never touched |
 //! | `sizes`, `plot` | time against memory, and the picture of it |
 
@@ -22,6 +23,7 @@ pub mod argon2;
 pub mod fresh;
 #[allow(unsafe_code)]
 pub mod intrinsics;
+pub mod lanes;
 pub mod lent;
 pub mod machine;
 pub mod measure;

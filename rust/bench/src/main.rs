@@ -3,7 +3,7 @@
 #![forbid(unsafe_code)]
 
 use bench::lent::Lent;
-use bench::{machine, pages, plot, programs, settings, sizes, table};
+use bench::{lanes, machine, pages, plot, programs, settings, sizes, table};
 use lyra2_reference::refusal::check_parameters;
 use lyra2_reference::Settings;
 use std::process::ExitCode;
@@ -14,6 +14,7 @@ usage: bench [table] [--quick]         the tables, in Markdown
        bench pages [--quick]           large pages beside ordinary ones, in Markdown
        bench blamka [R C ..] [--quick] the tables with the multiplying mixer
        bench settings [--quick]        other settings than the usual ones, in Markdown
+       bench lanes [--quick]           several lanes beside the single sponge, in Markdown
        bench plot FILE [--quick]       time against memory, as an SVG picture
        bench once PROGRAM R C [blamka] one derivation, for a tool that counts instructions
 --quick makes one pass over the measurements instead of four.";
@@ -32,6 +33,7 @@ fn main() -> ExitCode {
         ["blamka", ref numbers @ ..] => print_tables(BLAMKA, numbers, quick),
         ["pages"] => print_pages(quick),
         ["settings"] => print_settings(quick),
+        ["lanes"] => print_lanes(quick),
         ["plot", file] => draw(file, quick),
         ["once", program, r, c] => once(program, r, c, Settings::USUAL),
         ["once", program, r, c, "blamka"] => once(program, r, c, BLAMKA),
@@ -93,6 +95,12 @@ fn print_pages(quick: bool) -> Result<(), String> {
 fn print_settings(quick: bool) -> Result<(), String> {
     println!("{}", machine::description());
     settings::print(&programs::all().0, quick);
+    Ok(())
+}
+
+fn print_lanes(quick: bool) -> Result<(), String> {
+    println!("{}", machine::description());
+    lanes::print(&programs::all().0, quick);
     Ok(())
 }
 

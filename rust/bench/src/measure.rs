@@ -3,13 +3,14 @@
 //! In each turn every program derives once, in the same buffers, which are overwritten before. From turn to turn the
 //! programs change their order.
 //!
-//! All must leave the key that the second program derives. The recorded derivation must also leave that program's end
+//! All must leave the key that the second program derives, with their number of lanes. The recorded derivation must also leave that program's end
 //! matrix and its record, word for word. The others must leave zeros, which tell that the matrix was wiped and nothing of what was in
 //! it, so that the key alone vouches for their walk.
 
+use crate::lanes::with_lanes;
 use crate::lent::Lent;
 use crate::programs::Program;
-use lyra2_reference::{derive_recorded, Inputs};
+use lyra2_reference::{derive_recorded, lanes_derive, Inputs};
 use std::time::Instant;
 
 /// What the key and the matrix hold before a run.
@@ -82,14 +83,26 @@ impl Due {
         }
     }
 
-    /// Ends the benchmark if a program left something else.
-    fn assert_left(&self, program: &Program, lent: &mut Lent) {
+    /// The key that is due of a program.
+    fn key_of(&self, inputs: &Inputs, program: &Program) -> [u8; 32] {
+        let Some(p) = program.lanes else {
+            return self.key;
+        };
+        let mut key = [0; 32];
+        let mut matrix = vec![0; self.end_matrix.len()];
+        let answer = lanes_derive(&with_lanes(inputs, p), &mut key, &mut matrix);
+        answer.expect("no check refuses");
+        key
+    }
+
+    /// Ends the benchmark if a program left something else than this key and what else is due.
+    fn assert_left(&self, program: &Program, key: [u8; 32], lent: &mut Lent) {
         let name = program.name;
         assert_ne!(lent.key, [BEFORE; 32], "{name} left no key");
         if !program.lyra2 {
             return;
         }
-        assert_eq!(lent.key, self.key, "the key of {name}");
+        assert_eq!(lent.key, key, "the key of {name}");
         let matrix = lent.matrix();
         if program.keeps_matrix {
             assert!(matrix == self.end_matrix, "the end matrix of {name}");
@@ -114,16 +127,20 @@ pub fn measure_in(
     turns: usize,
 ) -> Vec<Times> {
     let due = Due::new(inputs);
+    let keys: Vec<[u8; 32]> = programs
+        .iter()
+        .map(|program| due.key_of(inputs, program))
+        .collect();
     buffers.iter_mut().for_each(|lent| lent.stored = due.key);
     let runs = buffers.len() * programs.len();
     let mut times = vec![Vec::with_capacity(turns); runs];
     for turn in 0..turns {
         for place in 0..runs {
             let number = (turn + place) % runs;
-            let program = programs[number % programs.len()];
+            let which = number % programs.len();
             let lent = &mut buffers[number / programs.len()];
-            times[number].push(timed(program, inputs, lent));
-            due.assert_left(program, lent);
+            times[number].push(timed(programs[which], inputs, lent));
+            due.assert_left(programs[which], keys[which], lent);
         }
     }
     times.into_iter().map(Times::new).collect()

@@ -25,6 +25,8 @@ pub struct Program {
     pub name: &'static str,
     /// Whether it computes Lyra2, and so has to agree with the others.
     pub lyra2: bool,
+    /// The number of lanes, where it is not the single sponge.
+    pub lanes: Option<u64>,
     /// Whether it leaves its end matrix and a record, as the recorded derivation does; the others of Lyra2 leave zeros.
     pub keeps_matrix: bool,
     /// Whether it is drawn in the picture of time against memory.
@@ -38,6 +40,7 @@ impl Program {
         Program {
             name,
             lyra2: true,
+            lanes: None,
             keeps_matrix: false,
             drawn,
             derive: Box::new(derive),
@@ -124,6 +127,7 @@ fn argon2id(library: Argon2) -> Program {
     Program {
         name: ARGON2ID,
         lyra2: false,
+        lanes: None,
         keeps_matrix: false,
         drawn: true,
         derive: Box::new(derive),

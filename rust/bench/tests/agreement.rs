@@ -7,11 +7,11 @@ use bench::pages::measure_once;
 use bench::programs::{self, Program};
 use bench::settings::{self, SETTINGS};
 use bench::table::{inputs, inputs_with};
-use bench::{intrinsics, speed};
+use bench::{intrinsics, lanes, speed};
 use derivation_link::Proved;
 use lyra2_reference::record::{numbers, visits, word, Visit};
 use lyra2_reference::vectors::Subject;
-use lyra2_reference::{derive_recorded, Inputs, Mixer, Settings};
+use lyra2_reference::{derive_recorded, lanes_derive, Inputs, Mixer, Settings};
 
 type Derive = fn(&Inputs, &mut [u8], &mut [u64]);
 
@@ -244,6 +244,47 @@ fn all_settings_are_measured() {
 }
 
 #[test]
+fn every_number_of_lanes_is_measured_beside_the_single_sponge() {
+    let (all, _) = programs::all();
+    let lanes = lanes::programs();
+    let mut measured: Vec<&Program> = all.iter().collect();
+    measured.extend(&lanes);
+    let counts: Vec<_> = lanes.iter().map(|program| program.lanes).collect();
+    assert_eq!(counts, [1, 2, 4, 8].map(Some));
+    let times = measure(&SMALL, &measured, 3);
+    assert!(times.iter().all(|times| times.count() == 3));
+}
+
+/// Derives with so many lanes where two are measured.
+fn measure_lanes(p: u64) {
+    let derive = move |inputs: &Inputs, lent: &mut Lent| {
+        let (key, matrix) = lent.key_and_matrix();
+        let answer = lanes_derive(&lanes::with_lanes(inputs, p), key, matrix);
+        answer.expect("no check refuses");
+    };
+    let program = Program {
+        name: "spoilt",
+        lyra2: true,
+        lanes: Some(2),
+        keeps_matrix: false,
+        drawn: false,
+        derive: Box::new(derive),
+    };
+    measure(&SMALL, &[&program], 1);
+}
+
+#[test]
+fn the_right_number_of_lanes_is_measured() {
+    measure_lanes(2);
+}
+
+#[test]
+#[should_panic(expected = "the key of spoilt")]
+fn another_number_of_lanes_ends_the_measurement() {
+    measure_lanes(4);
+}
+
+#[test]
 fn the_matrix_starts_with_a_line_of_the_cache_or_a_large_page() {
     let inputs = inputs(1024, 64);
     let start = |pages| Lent::on(pages, &inputs).matrix().as_ptr().addr();
@@ -263,6 +304,7 @@ fn measure_one(keeps_matrix: bool, derive: impl Fn(&Inputs, &mut Lent) + 'static
     let program = Program {
         name: "spoilt",
         lyra2: true,
+        lanes: None,
         keeps_matrix,
         drawn: false,
         derive: Box::new(derive),

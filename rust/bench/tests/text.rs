@@ -5,7 +5,7 @@ use bench::machine::day;
 use bench::measure::Times;
 use bench::plot::{svg, Line, Plot};
 use bench::programs::Program;
-use bench::{pages, settings, table};
+use bench::{lanes, pages, settings, table};
 use lyra2_memory::Granted;
 use lyra2_reference::{Mixer, Settings};
 
@@ -189,6 +189,7 @@ fn program(name: &'static str, lyra2: bool) -> Program {
     Program {
         name,
         lyra2,
+        lanes: None,
         keeps_matrix: false,
         drawn: false,
         derive: Box::new(|_, _| ()),
@@ -240,6 +241,24 @@ fn the_settings_have_a_line_each() {
 | 12, 11, BlaMka                             |       250.0 / 250.0 |  200.0 / 200.0 |       1.25 / 1.25 |
 ";
     assert_eq!(settings::markdown(&given, programs, &times), due);
+}
+
+#[test]
+fn each_number_of_lanes_has_a_line_beside_the_single_sponge() {
+    let inputs = table::inputs(50, 10);
+    let two = Program {
+        lanes: Some(2),
+        ..program("two lanes", true)
+    };
+    let programs = [&program("this library, plain", true), &two];
+    let times = [vec![3e-5, 2e-5, 4e-5], vec![3e-5, 2.5e-5, 6e-5]].map(Times::new);
+    let due = "\
+| this library      | ns a reduced call | to the single sponge |
+| ---               |              ---: |                 ---: |
+| the single sponge |       20.0 / 30.0 |          1.00 / 1.00 |
+| two lanes         |       25.0 / 30.0 |          1.25 / 1.00 |
+";
+    assert_eq!(lanes::markdown(&inputs, &programs, &times), due);
 }
 
 #[test]
