@@ -95,8 +95,7 @@ static uint32_t ask(struct call *call)
     }
 }
 
-/* A field of the answer: an operation that has it writes it in every case, and with zeros where the call is refused. */
-static void require_answer_field(const struct lent *field, bool has, uint32_t answer, const char *name)
+void require_answer_field(const struct lent *field, bool has, uint32_t answer, const char *name)
 {
     require_kept(field, has ? field->bytes : 0, name);
     if (has && answer != LYRA2_ACCEPTED)

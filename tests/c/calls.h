@@ -49,6 +49,9 @@ void make_call(struct call *call, enum operation operation, struct sizes sizes, 
 /* Gives back what was lent. */
 void end_call(struct call *call);
 
+/* A field of the answer: an operation that has it writes it in every case, and with zeros where the call is refused. */
+void require_answer_field(const struct lent *field, bool has, uint32_t answer, const char *name);
+
 /* The words that an accepted call uses. */
 size_t used_matrix(const struct sizes *sizes);
 size_t used_record(const struct sizes *sizes);

@@ -137,3 +137,11 @@ uint8_t *require_bytes(struct text line, const char *name, size_t *length)
         bytes[i] = (uint8_t)hexadecimal(value.start + 2 * i, 2);
     return bytes;
 }
+
+uint64_t checksum_of_zeros(size_t bytes)
+{
+    uint64_t sum = UINT64_C(0xcbf29ce484222325);
+    while (bytes-- > 0)
+        sum *= UINT64_C(0x100000001b3);
+    return sum;
+}

@@ -31,4 +31,7 @@ uint8_t *require_bytes(struct text line, const char *name, size_t *length);
 /* Whether a value is this word. */
 bool is(struct text value, const char *word);
 
+/* FNV-1a over so many zero bytes, which an accepted call leaves in the used matrix. */
+uint64_t checksum_of_zeros(size_t bytes);
+
 #endif

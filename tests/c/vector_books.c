@@ -100,15 +100,6 @@ static void run_remove(struct text line)
     free_run(book.lent);
 }
 
-/* FNV-1a over so many zero bytes, which an accepted check leaves in the used matrix. */
-static uint64_t checksum_of_zeros(size_t bytes)
-{
-    uint64_t sum = UINT64_C(0xcbf29ce484222325);
-    while (bytes-- > 0)
-        sum *= UINT64_C(0x100000001b3);
-    return sum;
-}
-
 static void require_checked(struct text line, struct book book, const struct checked *checked)
 {
     static const char *const names[LYRA2_COUNTS] = {"full", "reduced", "rounds"};
