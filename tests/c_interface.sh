@@ -1,15 +1,15 @@
 #!/usr/bin/env bash
 # The C interface from C: what the archive exports and needs, the header's limits, the refusals in pairs, visit records, login
-# lines, choices of costs, books of accounts, the stack, what is left on it, and the vectors; and wrong headers, wrong vectors
-# and faulty libraries, which these tests have to find.
+# lines, choices of costs, books of accounts, several lanes, the stack, what is left on it, and the vectors; and wrong headers,
+# wrong vectors and faulty libraries, which these tests have to find.
 set -eu
 cd "$(dirname "$0")/.."
 . tests/c/build.sh
 
-# ---- the archive: fourteen functions, nothing needed from elsewhere, no section to write in
+# ---- the archive: seventeen functions, nothing needed from elsewhere, no section to write in
 names=$(nm -g --defined-only "$library" 2>"$work/log" | sed -n 's/^[0-9a-f]* //p' | sort | tr '\n' ' ')
 same 'exported names' "$(printf 'T lyra2_%s ' book_{account,add,check,find,remove} check choose cost derive derive_recorded \
-    line_read line_write record_pair walk)" "$names"
+    lanes_{check,cost,derive} line_read line_write record_pair walk)" "$names"
 nm -u "$library" >"$work/undefined" 2>"$work/log"
 same 'names from elsewhere' '' "$(sed -n 's/^ *[Uwv] //p' "$work/undefined")"
 readelf -SW "$library" >"$work/sections"
@@ -17,8 +17,9 @@ grep -q ' AX ' "$work/sections" || { echo 'readelf shows no code'; exit 1; }
 same 'sections to write in' '' "$(grep -E ' (WA|WAT|AW)[A-Z]* ' "$work/sections" || true)"
 
 # ---- the programs
-compile limits refusals records lines choosing triples books book_refusals book_changes long_books stack left left_lines \
-    left_books marked vectors vector_books fields calls line_calls choice_calls book_calls book_due book_model lent
+compile limits refusals records lines choosing triples books book_refusals book_changes long_books lanes lane_refusals stack \
+    left left_lines left_books left_lanes marked vectors vector_books vector_lanes fields calls line_calls choice_calls \
+    book_calls book_due book_model lane_calls lane_model lent
 cc "${flags[@]}" "$work"/{limits,calls,lent}.o "$library" -o "$work/limits"
 cc "${flags[@]}" "$work"/{refusals,calls,lent}.o "$library" -o "$work/refusals"
 cc "${flags[@]}" "$work"/{records,calls,lent}.o "$library" -o "$work/records"
@@ -28,12 +29,16 @@ cc "${flags[@]}" "$work"/{triples,calls,choice_calls,lent}.o "$library" -o "$wor
 for program in books book_refusals book_changes long_books; do
     cc "${flags[@]}" "$work"/{$program,book_due,book_calls,book_model,calls,lent}.o "$library" -o "$work/$program"
 done
+for program in lanes lane_refusals; do
+    cc "${flags[@]}" "$work"/{$program,lane_calls,lane_model,calls,lent}.o "$library" -o "$work/$program"
+done
 cc "${flags[@]}" "$work"/{stack,marked,lent}.o "$library" -o "$work/stack"
 cc "${flags[@]}" "$work"/{left,marked,calls,lent}.o "$library" -o "$work/left"
 cc "${flags[@]}" "$work"/{left_lines,marked,lent}.o "$library" -o "$work/left_lines"
 cc "${flags[@]}" "$work"/{left_books,book_model,marked,lent}.o "$library" -o "$work/left_books"
-cc "${flags[@]}" "$work"/{vectors,vector_books,fields,calls,line_calls,choice_calls,book_calls,book_model,lent}.o "$library" \
-    -o "$work/vectors"
+cc "${flags[@]}" "$work"/{left_lanes,lane_model,marked,lent}.o "$library" -o "$work/left_lanes"
+vector_parts='vector_books vector_lanes fields calls line_calls choice_calls book_calls book_model lane_calls lane_model'
+cc "${flags[@]}" $(printf "$work/%s.o " vectors $vector_parts lent) "$library" -o "$work/vectors"
 "$work/limits"
 "$work/refusals"
 "$work/records"
@@ -44,15 +49,19 @@ cc "${flags[@]}" "$work"/{vectors,vector_books,fields,calls,line_calls,choice_ca
 "$work/book_refusals"
 "$work/book_changes"
 "$work/long_books"
+"$work/lanes"
+"$work/lane_refusals"
 "$work/stack"
 "$work/left"
 "$work/left_lines"
 "$work/left_books"
+"$work/left_lanes"
 "$work/vectors" vectors/lyra2.txt >"$work/ran"
 cat "$work/ran"
 
 # Every line of the file was put to the library, as grep counts them.
-for op in derive_recorded derive check cost choose walk line_read line_write book_{find,add,remove,check,account}; do
+for op in derive_recorded derive check cost choose walk line_read line_write book_{find,add,remove,check,account} \
+    lanes_{derive,check,cost}; do
     lines=$(grep -c " op=$op " vectors/lyra2.txt)
     grep -qE " $lines $op( lines|,)" "$work/ran" || { echo "not all $lines lines of $op were run"; exit 1; }
 done
@@ -61,23 +70,26 @@ done
 warned() { # FOLDER
     cc -std=c99 -I"$1" -c tests/c/careless.c -o "$work/careless.o" 2>&1 | grep -c 'Wunused-result'
 }
-same 'warnings of ignored answers' 12 "$(warned include)"
+same 'warnings of ignored answers' 15 "$(warned include)"
 
 # ---- wrong headers: a constant, a sentence or a declaration changed. The usual settings are those of lines that have none.
 grep ' op=derive .* refusal=0 ' vectors/lyra2.txt | grep -vE ' (rho|omega|mixer)=' | sed -n 1,5p >"$work/few"
 mkdir "$work/include"
-# Whether a test fails with the header in $work/include; what it says is in the log. The tests of books go first where the
-# edit is about them, which saves time.
+# Whether a test fails with the header in $work/include; what it says is in the log. The tests of books or lanes go first where
+# the edit is about them, which saves time.
 is_noticed() { # EDIT
     local name parts=() others=(limits records line_calls lines choice_calls choosing)
-    local books=(book_model book_calls book_due books book_refusals) first
-    first=("${others[@]}" "${books[@]}")
-    [[ $1 != *[Bb][Oo][Oo][Kk]* && $1 != *ACCOUNT* ]] || first=("${books[@]}" "${others[@]}")
-    for name in calls "${first[@]}" vector_books vectors; do
+    local books=(book_model book_calls book_due books book_refusals) lanes=(lane_model lane_calls lane_refusals lanes) order
+    case $1 in
+    *[Bb][Oo][Oo][Kk]* | *ACCOUNT*) order=("${books[@]}" "${others[@]}" "${lanes[@]}") ;;
+    *[Ll][Aa][Nn][Ee]*) order=("${lanes[@]}" "${others[@]}" "${books[@]}") ;;
+    *) order=("${others[@]}" "${books[@]}" "${lanes[@]}") ;;
+    esac
+    for name in calls "${order[@]}" vector_books vector_lanes vectors; do
         cc -std=c99 -Werror=int-conversion -Werror=incompatible-pointer-types -I"$work/include" \
             -c "tests/c/$name.c" -o "$work/include/$name.o" >"$work/log" 2>&1 || return 0
         case $name in
-        *calls | book_model | book_due) parts+=("$work/include/$name.o") ;;
+        *calls | *_model | book_due | vector_lanes) parts+=("$work/include/$name.o") ;;
         vector_books) parts+=("$work"/{include/vector_books,fields}.o) ;;
         *)
             cc "$work/include/$name.o" "${parts[@]}" "$work/lent.o" "$library" -o "$work/wrong" || exit 1
@@ -85,7 +97,7 @@ is_noticed() { # EDIT
             ;;
         esac
     done
-    [ "$(warned "$work/include")" != 12 ] || return 1
+    [ "$(warned "$work/include")" != 15 ] || return 1
     echo 'FAILED: an answer may be ignored' >"$work/log"
 }
 headers=0
@@ -285,7 +297,8 @@ build_faulty() { # FAULT PROGRAM
     compile_fault "$1"
     local parts=calls
     case $2 in
-    vectors) parts='vector_books fields calls line_calls choice_calls book_calls book_model' ;;
+    vectors) parts=$vector_parts ;;
+    lane*) parts='calls lane_calls lane_model' ;;
     *book*) parts='calls book_due book_calls book_model' ;;
     lines) parts='calls line_calls' ;;
     choosing | triples) parts='calls choice_calls' ;;

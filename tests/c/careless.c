@@ -7,7 +7,7 @@ void ignore_answers(void)
 {
     static const uint8_t bytes[LYRA2_SALT_MIN];
     static uint8_t key[32], line[LYRA2_LINE_MAX], salt[LYRA2_SALT_MAX], book[LYRA2_ACCOUNT_MAX];
-    static uint64_t matrix[LYRA2_MATRIX_WORDS(3, 1)], record[LYRA2_RECORD_WORDS(1, 3, 1)];
+    static uint64_t matrix[LYRA2_MATRIX_WORDS(4, 1)], record[LYRA2_RECORD_WORDS(1, 3, 1)];
     static uint64_t state[LYRA2_STATE_WORDS], counts[LYRA2_COUNTS];
     static size_t choice[LYRA2_CHOICE_VALUES], values[LYRA2_LINE_VALUES], row1, line_len, place, used_after;
     static uint32_t same;
@@ -23,4 +23,7 @@ void ignore_answers(void)
     lyra2_book_add(book, sizeof book, 0, 1, 1, 3, 1, bytes, 8, key, 32, &used_after);
     lyra2_book_remove(book, sizeof book, used_after, 1, &used_after);
     lyra2_book_check(bytes, 8, book, sizeof book, 0, 1, matrix, 36, &same, counts);
+    lyra2_lanes_derive(bytes, 8, bytes, 8, 1, 4, 1, 1, key, 32, matrix, 48, counts);
+    lyra2_lanes_check(bytes, 8, bytes, 8, 1, 4, 1, 1, key, 32, matrix, 48, &same, counts);
+    lyra2_lanes_cost(32, 8, 8, 1, 4, 1, 1, counts);
 }

@@ -9,6 +9,8 @@ static_assert(LYRA2_CHOICE_VALUES == 4 && LYRA2_REFUSED_TRIES == 15 && LYRA2_REF
 static_assert(LYRA2_ACCOUNT_BYTES(LYRA2_SALT_MAX, LYRA2_KEY_MAX) == LYRA2_ACCOUNT_MAX, "the longest account");
 static_assert(LYRA2_ACCOUNT_VALUES == 6 && LYRA2_REFUSED_BOOK == 17 && LYRA2_REFUSED_NO_ACCOUNT == 18
                   && LYRA2_REFUSED_BOOK_FULL == 19, "the book of accounts");
+static_assert(LYRA2_LANES_MIN == 1 && LYRA2_LANES_MAX == 8 && LYRA2_LANES_TIME_MIN == 1 && LYRA2_LANE_ROWS_MIN == 4
+                  && LYRA2_REFUSED_LANES == 20, "the lanes");
 static_assert(!LYRA2_MIXER_PLAIN && LYRA2_MIXER_BLAMKA, "the two mixers");
 
 // A word of the record is taken apart into these two numbers, and nothing beside them is written.
@@ -57,6 +59,27 @@ static bool keeps_an_account(const uint8_t *password, const uint8_t *salt, const
     return book[size] == 0xa5;
 }
 
+// Two lanes derive a key that they know again, whose counts were foretold; the word past the used matrix is kept.
+static bool derives_with_lanes(const uint8_t *password, const uint8_t *salt)
+{
+    const uint64_t guard = 0xa5a5a5a5a5a5a5a5;
+    const size_t used = LYRA2_MATRIX_WORDS(8, 1);
+    uint8_t key[32] = {};
+    uint64_t matrix[used + 1], counts[LYRA2_COUNTS], foretold[LYRA2_COUNTS];
+    uint32_t same = 0;
+    matrix[used] = guard;
+    if (lyra2_lanes_derive(password, 1, salt, LYRA2_SALT_MIN, 1, 8, 1, 2, key, sizeof key, matrix, used + 1, counts)
+            != LYRA2_ACCEPTED
+        || lyra2_lanes_check(password, 1, salt, LYRA2_SALT_MIN, 1, 8, 1, 2, key, sizeof key, matrix, used + 1, &same,
+                             counts) != LYRA2_ACCEPTED
+        || lyra2_lanes_cost(sizeof key, 1, LYRA2_SALT_MIN, 1, 8, 1, 2, foretold) != LYRA2_ACCEPTED)
+        return false;
+    for (size_t i = 0; i < LYRA2_COUNTS; i++)
+        if (counts[i] != foretold[i])
+            return false;
+    return same == 1 && counts[LYRA2_REDUCED_CALLS] == 16 && matrix[0] == 0 && matrix[used] == guard;
+}
+
 int main()
 {
     if (!chooses_the_greatest())
@@ -78,5 +101,5 @@ int main()
         return 1;
     if (same != 1 || counts[LYRA2_REDUCED_CALLS] != 6)
         return 1;
-    return keeps_an_account(password, salt, key, matrix) ? 0 : 1;
+    return keeps_an_account(password, salt, key, matrix) && derives_with_lanes(password, salt) ? 0 : 1;
 }

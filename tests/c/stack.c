@@ -5,12 +5,16 @@
 
 #include <stdio.h>
 
-enum { ROWS = 20, COLUMNS = 17, TIME = 2, OPERATIONS_RUN = 14, ACCOUNTS = 100, REPLACED = ACCOUNTS / 2 };
+enum { ROWS = 20, COLUMNS = 17, TIME = 2, OPERATIONS_RUN = 17, ACCOUNTS = 100, REPLACED = ACCOUNTS / 2 };
+
+/* With lanes the matrix has the same number of cells at most. */
+enum { LANES = LYRA2_LANES_MAX, LANES_ROWS = LANES * LYRA2_LANE_ROWS_MIN, LANES_COLUMNS = ROWS * COLUMNS / LANES_ROWS };
 
 /* A record, a line and an account are written before they are read. */
 static const char *const names[OPERATIONS_RUN] = {
-    "derive",     "derive_recorded", "check",    "cost",      "choose",     "walk",        "record_pair",
-    "line_write", "line_read",       "book_add", "book_find", "book_check", "book_remove", "book_account"};
+    "derive",      "derive_recorded", "check",        "cost",         "choose",      "walk",
+    "record_pair", "line_write",      "line_read",    "book_add",     "book_find",   "book_check",
+    "book_remove", "book_account",    "lanes_derive", "lanes_check",  "lanes_cost"};
 static const uint8_t password[LYRA2_PASSWORD_MAX], salt[LYRA2_SALT_MAX];
 static uint8_t key[LYRA2_KEY_MAX];
 static uint64_t matrix[LYRA2_MATRIX_WORDS(ROWS, COLUMNS)], record[LYRA2_RECORD_WORDS(TIME, ROWS, COLUMNS)];
@@ -71,6 +75,20 @@ static void fill_book(void)
     }
 }
 
+static void call_lanes(void)
+{
+    size_t matrix_words = sizeof matrix / sizeof *matrix;
+    if (operation == 14)
+        answer = lyra2_lanes_derive(password, sizeof password, salt, sizeof salt, TIME, LANES_ROWS, LANES_COLUMNS,
+                                    LANES, key, sizeof key, matrix, matrix_words, counts);
+    else if (operation == 15)
+        answer = lyra2_lanes_check(password, sizeof password, salt, sizeof salt, TIME, LANES_ROWS, LANES_COLUMNS,
+                                   LANES, key, sizeof key, matrix, matrix_words, &same, counts);
+    else
+        answer = lyra2_lanes_cost(sizeof key, sizeof password, sizeof salt, TIME, LANES_ROWS, LANES_COLUMNS, LANES,
+                                  counts);
+}
+
 static void call_line(void)
 {
     if (operation == 7)
@@ -113,6 +131,11 @@ static void call(void)
     case 7:
     case 8:
         call_line();
+        break;
+    case 14:
+    case 15:
+    case 16:
+        call_lanes();
         break;
     default:
         call_book();

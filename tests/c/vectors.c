@@ -7,6 +7,7 @@
 #include "fields.h"
 #include "line_calls.h"
 #include "vector_books.h"
+#include "vector_lanes.h"
 
 #include <inttypes.h>
 #include <stdio.h>
@@ -287,7 +288,7 @@ static void run_any(struct text line)
         run_line_read(line);
     else if (is(name, "line_write"))
         run_line_write(line);
-    else if (!run_book(line, name) && !is(name, "walk_program"))
+    else if (!run_book(line, name) && !run_lanes(line, name) && !is(name, "walk_program"))
         fail("an unknown operation");
 }
 
@@ -326,6 +327,8 @@ int main(int count, char **arguments)
         printf(" %zu %s,", lines_of[operation], operation_names[operation]);
     printf(" %zu choose, %zu walk, %zu line_read, %zu line_write,", choice_lines, walk_lines, read_lines, write_lines);
     print_book_lines();
+    printf(",");
+    print_lane_lines();
     printf(" lines; %zu calls\n", calls_made);
     return 0;
 }
