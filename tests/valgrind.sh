@@ -13,24 +13,29 @@ memcheck() { # PROGRAM ARGUMENT..
 }
 
 flags+=(-g)
-compile memcheck memcheck_lines memcheck_choices memcheck_books watched refusals records lines choosing books book_refusals \
-    vectors vector_books fields calls line_calls choice_calls book_calls book_due book_model lent
+compile memcheck memcheck_lines memcheck_choices memcheck_books memcheck_lanes watched refusals records lines choosing books \
+    book_refusals lane_refusals vectors vector_books vector_lanes fields calls line_calls choice_calls book_calls book_due \
+    book_model lane_calls lane_model lent
 cc "$work"/{memcheck,watched,calls,lent}.o "$library" -o "$work/memcheck"
 cc "$work"/{memcheck_lines,watched,calls,lent}.o "$library" -o "$work/memcheck_lines"
 cc "$work"/{memcheck_choices,watched,calls,lent}.o "$library" -o "$work/memcheck_choices"
 cc "$work"/{memcheck_books,book_model,watched,calls,lent}.o "$library" -o "$work/memcheck_books"
+cc "$work"/{memcheck_lanes,watched,calls,lent}.o "$library" -o "$work/memcheck_lanes"
 cc "$work"/{refusals,calls,lent}.o "$library" -o "$work/refusals"
 cc "$work"/{records,calls,lent}.o "$library" -o "$work/records"
 cc "$work"/{lines,calls,line_calls,lent}.o "$library" -o "$work/lines"
 cc "$work"/{choosing,calls,choice_calls,lent}.o "$library" -o "$work/choosing"
 cc "$work"/{books,book_due,book_calls,book_model,calls,lent}.o "$library" -o "$work/books"
 cc "$work"/{book_refusals,book_due,book_calls,book_model,calls,lent}.o "$library" -o "$work/book_refusals"
-cc "$work"/{vectors,vector_books,fields,calls,line_calls,choice_calls,book_calls,book_model,lent}.o "$library" -o "$work/vectors"
+cc "$work"/{lane_refusals,lane_calls,lane_model,calls,lent}.o "$library" -o "$work/lane_refusals"
+cc "$work"/{vectors,vector_books,vector_lanes,fields,calls,line_calls,choice_calls,book_calls,book_model,lane_calls,lane_model,lent}.o \
+    "$library" -o "$work/vectors"
 # A pipe would hide the status.
 memcheck "$work/memcheck" >"$work/ran"
 memcheck "$work/memcheck_lines" >>"$work/ran"
 memcheck "$work/memcheck_choices" >>"$work/ran"
 memcheck "$work/memcheck_books" >>"$work/ran"
+memcheck "$work/memcheck_lanes" >>"$work/ran"
 cat "$work/ran"
 memcheck "$work/refusals"
 memcheck "$work/records"
@@ -38,12 +43,13 @@ memcheck "$work/lines"
 memcheck "$work/choosing"
 memcheck "$work/books"
 memcheck "$work/book_refusals"
+memcheck "$work/lane_refusals"
 cc "${flags[@]}" examples/derive_and_check.c "$library" -o "$work/example"
 same 'the example' "$(cat examples/derive_and_check.out)" "$(printf 'correct horse' | memcheck "$work/example" 'salt of 16 bytes' 1 256 64 32)"
 
 # Every third of the vectors whose matrix has fewer than 1,000 words, since all of them would take minutes, and all lines,
 # choices and books.
-grep -vE ' op=(choose|book_[a-z]+) ' vectors/lyra2.txt | grep -E ' op=(cost|walk) | matrix_words=[0-9]{1,3} ' \
+grep -vE ' op=(choose|book_[a-z]+) ' vectors/lyra2.txt | grep -E ' op=(cost|lanes_cost|walk) | matrix_words=[0-9]{1,3} ' \
     | awk 'NR % 3 == 0' >"$work/small"
 grep -E ' op=(choose|line_read|line_write|book_[a-z]+) ' vectors/lyra2.txt >>"$work/small"
 memcheck "$work/vectors" "$work/small"
