@@ -1,6 +1,7 @@
 /* The header's limits, sizes and sentences are the library's own: each limit is accepted and one beyond it refused. */
 #include "calls.h"
 
+#include <ctype.h>
 #include <inttypes.h>
 #include <stdio.h>
 #include <stdlib.h>
@@ -131,11 +132,11 @@ static struct sizes with(const struct limit *limit, size_t value)
 /* A refusal's sentence names the limit that was passed. */
 static void require_sentence(uint32_t refusal, size_t limit)
 {
-    char number[32], sentence[128];
-    snprintf(sentence, sizeof sentence, "%s ", lyra2_sentence(refusal));
-    snprintf(number, sizeof number, " %zu ", limit);
-    if (strstr(sentence, number) == NULL)
-        fail("'%s' does not say%s", sentence, number);
+    char number[32];
+    int length = snprintf(number, sizeof number, " %zu", limit);
+    const char *place = strstr(lyra2_sentence(refusal), number);
+    if (place == NULL || isdigit((unsigned char)place[length]))
+        fail("'%s' does not say%s", lyra2_sentence(refusal), number);
 }
 
 static void require_limit(const struct limit *limit)
