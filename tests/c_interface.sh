@@ -270,6 +270,58 @@ s/LYRA2_ANSWER uint32_t lyra2_book_find/uint32_t lyra2_book_find/
 s/LYRA2_ANSWER uint32_t lyra2_book_add/uint32_t lyra2_book_add/
 s/LYRA2_ANSWER uint32_t lyra2_book_remove/uint32_t lyra2_book_remove/
 s/LYRA2_ANSWER uint32_t lyra2_book_check/uint32_t lyra2_book_check/
+s/LANES_MIN 1/LANES_MIN 0/
+s/LANES_MIN 1/LANES_MIN 2/
+s/LANES_MAX 8/LANES_MAX 7/
+s/LANES_MAX 8/LANES_MAX 9/
+s/LANES_TIME_MIN 1/LANES_TIME_MIN 0/
+s/LANES_TIME_MIN 1/LANES_TIME_MIN 2/
+s/LANE_ROWS_MIN 4/LANE_ROWS_MIN 2/
+s/LANE_ROWS_MIN 4/LANE_ROWS_MIN 3/
+s/LANE_ROWS_MIN 4/LANE_ROWS_MIN 6/
+s/REFUSED_BOOK_FULL = 19/REFUSED_BOOK_FULL = 20/; s/REFUSED_LANES = 20/REFUSED_LANES = 19/
+s/REFUSED_LANES = 20/REFUSED_LANES = 99/
+s/the lanes have to be 1 to 8/the lanes have to be 1 to 9/
+s/from 4 [*] lanes on/from 2 * lanes on/
+s/a multiple of 2 [*] lanes from/a multiple of the lanes from/
+s/, and with lanes not 0//
+/ lyra2_lanes_derive(/,/;/s/, size_t lanes,/,/
+/ lyra2_lanes_derive(/,/;/s/size_t lanes,/size_t lanes, size_t rounds,/
+/ lyra2_lanes_derive(/,/;/s/size_t password_len/uint8_t password_len/
+/ lyra2_lanes_derive(/,/;/s/size_t salt_len/uint8_t salt_len/
+/ lyra2_lanes_derive(/,/;/s/size_t time/uint8_t time/
+/ lyra2_lanes_derive(/,/;/s/size_t rows/uint16_t rows/
+/ lyra2_lanes_derive(/,/;/s/size_t columns/uint16_t columns/
+/ lyra2_lanes_derive(/,/;/s/size_t lanes/uint8_t lanes/
+/ lyra2_lanes_derive(/,/;/s/size_t lanes/uint16_t lanes/
+/ lyra2_lanes_derive(/,/;/s/size_t key_len/uint8_t key_len/
+/ lyra2_lanes_derive(/,/;/s/size_t matrix_words/uint16_t matrix_words/
+/ lyra2_lanes_derive(/,/;/s/uint64_t counts/uint32_t counts/
+/ lyra2_lanes_check(/,/;/s/, size_t lanes,/,/
+/ lyra2_lanes_check(/,/;/s/size_t lanes,/size_t lanes, size_t rounds,/
+/ lyra2_lanes_check(/,/;/s/size_t password_len/uint8_t password_len/
+/ lyra2_lanes_check(/,/;/s/size_t salt_len/uint8_t salt_len/
+/ lyra2_lanes_check(/,/;/s/size_t time/uint8_t time/
+/ lyra2_lanes_check(/,/;/s/size_t rows/uint16_t rows/
+/ lyra2_lanes_check(/,/;/s/size_t columns/uint16_t columns/
+/ lyra2_lanes_check(/,/;/s/size_t lanes/uint8_t lanes/
+/ lyra2_lanes_check(/,/;/s/size_t lanes/uint16_t lanes/
+/ lyra2_lanes_check(/,/;/s/size_t stored_len/uint8_t stored_len/
+/ lyra2_lanes_check(/,/;/s/size_t matrix_words/uint16_t matrix_words/
+/ lyra2_lanes_check(/,/;/s/uint32_t [*]same/uint64_t *same/
+/ lyra2_lanes_check(/,/;/s/uint64_t counts/uint32_t counts/
+/ lyra2_lanes_cost(/,/;/s/, size_t lanes,/,/
+/ lyra2_lanes_cost(/,/;/s/size_t key_len/uint16_t key_len/
+/ lyra2_lanes_cost(/,/;/s/size_t password_len/uint16_t password_len/
+/ lyra2_lanes_cost(/,/;/s/size_t salt_len/uint8_t salt_len/
+/ lyra2_lanes_cost(/,/;/s/size_t time/uint8_t time/
+/ lyra2_lanes_cost(/,/;/s/size_t rows/uint16_t rows/
+/ lyra2_lanes_cost(/,/;/s/size_t columns/uint16_t columns/
+/ lyra2_lanes_cost(/,/;/s/size_t lanes/uint8_t lanes/
+/ lyra2_lanes_cost(/,/;/s/uint64_t counts/uint32_t counts/
+s/LYRA2_ANSWER uint32_t lyra2_lanes_derive/uint32_t lyra2_lanes_derive/
+s/LYRA2_ANSWER uint32_t lyra2_lanes_check/uint32_t lyra2_lanes_check/
+s/LYRA2_ANSWER uint32_t lyra2_lanes_cost/uint32_t lyra2_lanes_cost/
 s/__attribute__((warn_unused_result))//
 END
 
@@ -279,7 +331,9 @@ for spoilt in derive_recorded:{key,state,full,reduced,rounds,matrix_sum,record_s
     derive:{key,matrix_sum,rho,omega,mixer} check:{answer,matrix_sum,full,rho,omega,mixer} cost:{full,rounds,rho} \
     choose:{T,R,C,shortfall,rho,matrix_words} walk:row1 line_read:{T,R,C,salt,key} line_write:line book_find:{place,number} \
     book_add:{used_after,book_after,R,key} book_remove:{used_after,book_after,number} \
-    book_check:{answer,full,reduced,rounds,matrix_sum,password} book_account:{size,number,T,R,C,salt_len,key_len,place}; do
+    book_check:{answer,full,reduced,rounds,matrix_sum,password} book_account:{size,number,T,R,C,salt_len,key_len,place} \
+    lanes_derive:{key,full,reduced,rounds,matrix_sum,T,R,C,p} lanes_check:{answer,full,reduced,rounds,matrix_sum,T,R,C,p} \
+    lanes_cost:{full,reduced,rounds,T,R,C,p}; do
     field=${spoilt#*:}
     line=$(grep " op=${spoilt%:*} .* refusal=0 " vectors/lyra2.txt | grep " $field=" | grep -v " answer=no " | sed -n 1p)
     changed=$(sed -E "s/ $field=yes/ $field=NO/; s/ $field=no/ $field=yes/; s/ $field=NO/ $field=no/
@@ -316,7 +370,9 @@ is_found() { # FAULT PROGRAM..
 # Where all operations take one mixer for the other they agree with one another, and the vectors alone tell. The lines of
 # choices and of books are for the library without a fault, which makes them by itself.
 grep -E ' op=(choose|book_[a-z]+) | op=(derive|derive_recorded|check) .* rho=.* matrix_words=[0-9]{1,3} ' vectors/lyra2.txt >"$work/small"
-for program in limits refusals records vectors lines choosing triples books book_refusals book_changes long_books; do
+grep -E ' op=lanes_derive .* matrix_words=[0-9]{1,3} ' vectors/lyra2.txt >"$work/small_lanes"
+for program in limits refusals records vectors lines choosing triples books book_refusals book_changes long_books lanes \
+    lane_refusals; do
     build_faulty 0 $program
     "$work/faulty" "$work/small" >"$work/log" 2>&1 || { cat "$work/log"; echo 'the wrapped library without a fault fails'; exit 1; }
 done
@@ -599,20 +655,206 @@ done <<'END'
 936 check, the account's password: same is 0
 END
 
+# Those of several lanes. In the key: the call that tells, and a line of the vectors tells as well.
+while read -r fault words; do
+    is_found "$fault" lanes || { echo "fault $fault is not found"; exit 1; }
+    grep -q "^FAILED: lanes_derive, .*: a byte of the key is .* is due: .*$words" "$work/log" \
+        || { cat "$work/log"; echo "fault $fault is found for another reason"; exit 1; }
+    build_faulty "$fault" vectors
+    ! "$work/faulty" "$work/small_lanes" >"$work/log" 2>&1 || { echo "the vectors do not find fault $fault"; exit 1; }
+    grep -q '^FAILED: case .*: lanes_derive: another key is due' "$work/log" || { cat "$work/log"; exit 1; }
+    found=$((found + 1))
+done <<'END'
+1001 R 4, C 1, lanes 1,
+1002 R 4, C 1, lanes 1,
+1003 R 4, C 1, lanes 1,
+1004 R 4, C 1, lanes 1,
+1005 R 8, C 1, lanes 2,
+1006 R 8, C 1, lanes 2,
+1011 R 12, C 1, lanes 2,
+1012 R 18, C 1, lanes 3,
+1013 R 12, C 1, lanes 2,
+1014 R 12, C 1, lanes 2,
+1015 R 12, C 1, lanes 2,
+1016 R 16, C 1, lanes 2,
+1017 R 12, C 1, lanes 2,
+1018 R 12, C 1, lanes 2,
+1019 R 12, C 1, lanes 2,
+1021 R 8, C 2, lanes 2,
+1022 R 4, C 2, lanes 1,
+1023 R 4, C 2, lanes 1,
+1024 R 4, C 5, lanes 1,
+1025 R 4, C 1, lanes 1,
+1026 R 4, C 2, lanes 1,
+1027 R 4, C 1, lanes 1,
+1028 R 4, C 1, lanes 1,
+1029 R 8, C 1, lanes 2,
+1030 R 8, C 1, lanes 2,
+1031 R 4, C 1, lanes 1,
+1032 R 4, C 1, lanes 1,
+1033 R 4, C 2, lanes 1,
+1034 R 4, C 1, lanes 1,
+1035 R 4, C 2, lanes 1,
+1036 R 4, C 1, lanes 1,
+1037 R 4, C 1, lanes 1,
+1038 R 8, C 1, lanes 2,
+1039 R 4, C 1, lanes 1,
+1051 R 8, C 1, lanes 2,
+1052 R 8, C 1, lanes 2,
+1053 R 8, C 1, lanes 2,
+1054 R 8, C 1, lanes 2,
+1055 R 8, C 1, lanes 2,
+1056 R 4, C 1, lanes 1,
+1057 key 97, .* R 12, C 2, lanes 2,
+1058 R 8, C 1, lanes 2,
+1059 R 4, C 1, lanes 1,
+1060 R 4, C 1, lanes 1,
+END
+
+# Those that the operations with lanes have alike, each from a first number on, and what is said of each.
+is_found_in() { # PLACE WORDS PROGRAM OPERATION:FIRST..
+    local operation fault
+    for operation in "${@:4}"; do
+        fault=$((${operation#*:} + $1))
+        is_found "$fault" "$3" || { echo "fault $fault is not found"; exit 1; }
+        grep -qE "^FAILED: (lanes_${operation%:*}, )?$2" "$work/log" \
+            || { cat "$work/log"; echo "fault $fault is found for another reason"; exit 1; }
+        found=$((found + 1))
+    done
+}
+# In the refusals; the cost question has no matrix, and is the only one that can be told of lengths that no memory has.
+while read -r place words; do
+    case $place in
+    2[012] | 4[34]) is_found_in "$place" "$words" lane_refusals derive:1100 check:1160 ;;
+    53) is_found_in "$place" "$words" lane_refusals cost:1220 ;;
+    *) is_found_in "$place" "$words" lane_refusals derive:1100 check:1160 cost:1220 ;;
+    esac
+done <<'END'
+0 the key's limit: the answer is 0, where 1 is due: key 0,
+1 the key's limit: the answer is 0, where 1 is due: key 1025,
+2 the key's limit: the answer is 1, where 0 is due: key 1024,
+3 the password's limit: the answer is 0, where 2 is due: .* password 1025,
+4 the password's limit: the answer is 2, where 0 is due: .* password 1024,
+5 the salt's limit: the answer is 0, where 3 is due: .* salt 7,
+6 the key's limit: the answer is 3, where 0 is due: key 1,
+7 the salt's limit: the answer is 0, where 10 is due: .* salt 65,
+8 the salt's limit: the answer is 10, where 0 is due: .* salt 64,
+9 the limit of T: the answer is 0, where 4 is due: .* T 0,
+10 the key's limit: the answer is 4, where 0 is due: key 1,
+11 the limit of T: the answer is 0, where 4 is due: .* T 256,
+12 the limit of T: the answer is 4, where 0 is due: .* T 255,
+13 too few rows: the answer is 20, where 5 is due: .* R 2, C 1, lanes 1,
+14 three rows: the answer is 5, where 20 is due: .* R 3, C 1, lanes 1,
+15 the most rows: the answer is 0, where 5 is due: .* R 16386, C 1, lanes 1,
+16 the most rows: the answer is 5, where 0 is due: .* R 16384, C 1, lanes 1,
+17 the limit of C: the answer is 0, where 6 is due: .* C 0,
+18 the limit of C: the answer is 0, where 6 is due: .* C 257,
+19 the limit of C: the answer is 6, where 0 is due: .* C 256,
+20 a word less: the answer is 0, where 7 is due: .* R 8,
+21 the key's limit: the answer is 7, where 0 is due: key 1,
+22 a word less: the answer is 0, where 7 is due: .* R 8,
+23 the limit of the lanes: the answer is 0, where 20 is due: .* lanes 0,
+24 the limit of the lanes: the answer is 0, where 20 is due: .* lanes 9,
+25 the limit of the lanes: the answer is 20, where 0 is due: .* lanes 1,
+26 the limit of the lanes: the answer is 20, where 0 is due: .* lanes 8,
+27 lanes and rows: the answer is 0, where 20 is due: .* R 5, C 1, lanes 1,
+28 lanes and rows: the answer is 0, where 20 is due: .* R 10, C 1, lanes 2,
+29 the most rows: the answer is 0, where 20 is due: .* R 16384, C 1, lanes 3,
+30 lanes and rows: the answer is 0, where 20 is due: .* R 6, C 1, lanes 2,
+31 too few rows: the answer is 0, where 20 is due: .* R 4, C 1, lanes 2,
+32 the fewest rows: the answer is 20, where 0 is due: .* R 4, C 1, lanes 1,
+33 two refusals: the answer is 2, where 1 is due
+34 two refusals: the answer is 3, where 2 is due
+35 two refusals: the answer is 4, where 10 is due
+36 two refusals: the answer is 5, where 4 is due
+37 two refusals: the answer is 6, where 5 is due
+38 two refusals: the answer is 20, where 6 is due
+39 too few rows: the answer is 20, where 5 is due: .* R 2, C 1, lanes 1,
+40 two refusals: the answer is 20, where 4 is due
+41 two refusals: the answer is 20, where 10 is due
+42 two refusals: the answer is 20, where 1 is due
+43 two refusals: the answer is 7, where 20 is due
+44 two refusals: the answer is 7, where 4 is due
+45 the limit of the lanes: the answer is 5, where 20 is due: .* lanes 9,
+46 the limit of T: the answer is 20, where 4 is due: .* T 0,
+47 the salt's limit: the answer is 3, where 10 is due: .* salt 65,
+48 a bit: the answer is 0, where 20 is due: .* lanes 4294967298,
+49 a bit: the answer is 0, where 20 is due: .* lanes 65538,
+50 a bit: the answer is 0, where 5 is due: .* R 4294967440,
+51 a bit: the answer is 0, where 4 is due: .* T 4294967297,
+52 a bit: the answer is 0, where 6 is due: .* C 4294967297,
+53 a bit: the answer is 0, where 1 is due: key 4294967328,
+END
+# In the counts.
+while read -r place program words; do
+    is_found_in "$place" "$words" $program derive:1300 check:1320 cost:1340
+done <<'END'
+0 lanes the lanes and rows: the number of full calls is 3, where 2 is due
+1 lanes the lanes and rows: the number of reduced calls is 7, where 8 is due
+2 lanes the lanes and rows: the number of rounds is 33, where 32 is due
+3 lanes the lanes and rows: the number of full calls is 2, where 4 is due: .* lanes 2,
+4 lanes the lanes and rows: the number of reduced calls is 8, where 16 is due: .* lanes 2,
+5 lanes the lengths: the number of full calls is 2, where 3 is due: key 32, password 24, salt 8,
+6 lanes the lanes and rows: the number of full calls is 3, where 4 is due: .* lanes 2,
+7 lanes the lanes and rows: the number of reduced calls is 4, where 8 is due
+8 lanes the lanes and rows: the number of reduced calls is 12, where 8 is due
+9 lanes the lanes and rows: the number of rounds is [0-9]*, where 32 is due
+10 lanes counts: changed about byte 24,
+11 lane_refusals counts: byte 16 is .., where 0 is due
+END
+# In the matrix.
+while read -r place program words; do
+    is_found_in "$place" "matrix: $words" $program derive:1360 check:1370
+done <<'END'
+0 lanes byte 0 is 01, where 0 is due
+1 lanes byte 376 is 01, where 0 is due
+2 lane_refusals byte 6912 is 01, where 0 is due
+3 lanes byte 0 is 01, where 0 is due
+4 lanes changed about byte 768,
+5 lanes changed about byte 800,
+6 lane_refusals changed about byte 0,
+7 lane_refusals changed about byte 0,
+END
+# In what else the derivation and the check store.
+while read -r fault program words; do
+    is_found_in "$fault" "$words" $program derive:0
+done <<'END'
+1380 lanes key: changed about byte 30, of which 32 are lent and 32 used
+1381 lane_refusals key: changed about byte -?[0-9], of which 1025 are lent and 0 used
+1382 lane_refusals key: changed about byte -?[0-9], of which 32 are lent and 0 used
+1383 lanes password: changed about byte
+1384 lanes salt: changed about byte
+1385 lanes the lanes and rows: a byte of the key is [0-9]*, where [0-9]* is due
+END
+while read -r fault program words; do
+    is_found_in "$fault" "$words" $program check:0
+done <<'END'
+1390 lanes the lanes and rows: same is 1, where 0 is due
+1391 lanes the lanes and rows: same is 0, where 1 is due
+1392 lane_refusals same: byte 0 is .., where 0 is due
+1393 lane_refusals same: byte 0 is 01, where 0 is due
+1394 lanes same: changed about byte 4,
+1395 lanes stored: its contents were changed
+1396 lanes the lanes and rows: same is 0, where 1 is due: .* lanes 2,
+1397 lanes the lanes and rows: same is 1, where 0 is due
+1398 lanes the lengths: same is 1, where 0 is due: key 97,
+END
+
 # Those that leave something on the stack, and what is said of each. No linker looks up what they call while they run, since
 # it would leave more there.
 report_left() { # FAULT PROGRAM
     compile_fault "$1"
-    cc "$wrapped" -Wl,-z,now "$work"/{"$2",marked,calls,book_model,lent}.o "${faulty[@]}" "$library" -o "$work/faulty" || exit 1
+    cc "$wrapped" -Wl,-z,now "$work"/{"$2",marked,calls,book_model,lane_model,lent}.o "${faulty[@]}" "$library" -o "$work/faulty" || exit 1
     "$work/faulty" 2>&1 && echo 'nothing is found'
 }
-for program in left left_lines left_books; do
+for program in left left_lines left_books left_lanes; do
     same 'the stack of the wrapped library without a fault' 'nothing is found' "$(report_left 0 $program | tail -n 1)"
 done
 while read -r fault words; do
     case $((fault / 100)) in
     0) program=left ;;
     1) program=left_lines ;;
+    14) program=left_lanes ;;
     *) program=left_books ;;
     esac
     same "fault $fault" "FAILED: $words" "$(report_left "$fault" $program)"

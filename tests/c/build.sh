@@ -7,7 +7,7 @@ work=$(mktemp -d)
 trap 'rm -rf "$work"' EXIT
 flags=(-std=c99 -O2 -Wall -Wextra -pedantic -Werror -Iinclude)
 wrapped=-Wl$(printf ',--wrap=lyra2_%s' derive derive_recorded check cost choose walk record_pair line_read line_write \
-    book_{find,add,remove,check,account})
+    book_{find,add,remove,check,account} lanes_{derive,check,cost})
 
 same() { # WHAT EXPECTED FOUND
     [ "$2" = "$3" ] || { echo "$1: expected '$2', found '$3'"; exit 1; }
@@ -25,11 +25,12 @@ compile() { # NAME..
 # numbers, and is as good as without a fault for all others.
 compile_fault() { # FAULT
     local hundreds=(faulty faulty_lines faulty_settings faulty_settings faulty_records faulty_choices faulty_rule
-        faulty_books faulty_accounts faulty_book_checks)
+        faulty_books faulty_accounts faulty_book_checks faulty_lane_keys faulty_lane_checks faulty_lane_checks
+        faulty_lanes faulty_lanes)
     local source own object
     faulty=()
     for source in faulty faulty_lines faulty_settings faulty_records faulty_choices faulty_rule faulty_books faulty_accounts \
-        faulty_book_checks; do
+        faulty_book_checks faulty_lane_keys faulty_lane_checks faulty_lanes; do
         own=0
         [ "$source" != "${hundreds[$1 / 100]}" ] || own=$1
         object=$work/${source}_$own.o

@@ -3,8 +3,9 @@
  * test and the library. FAULT chooses the fault; 0 is none, those from 60 on are seen by memcheck alone, and those from
  * 70 on by the search of the stack alone. Those from 100 on are in faulty_lines.c, those from 200 on in
  * faulty_settings.c, those from 400 on in faulty_records.c, those from 500 on in faulty_choices.c, those from 600 on in
- * faulty_rule.c, those from 700 on in faulty_books.c, those from 800 on in faulty_accounts.c and those from 900 on in
- * faulty_book_checks.c.
+ * faulty_rule.c, those from 700 on in faulty_books.c, those from 800 on in faulty_accounts.c, those from 900 on in
+ * faulty_book_checks.c, those from 1000 on in faulty_lane_keys.c, those from 1100 on in faulty_lane_checks.c and those
+ * from 1300 on in faulty_lanes.c.
  */
 #include "faulty.h"
 #include "lyra2.h"

@@ -71,6 +71,22 @@ uint32_t judge(const uint8_t *book, size_t book_len, size_t used, uint32_t numbe
 /* The first of the checks of an account that is added. */
 uint32_t refuse_account(const struct account_read *account);
 
+struct lane_sizes;
+struct lane_end;
+
+/* The first fault in the refusals of each operation with several lanes. */
+enum { CHECKS_OF_DERIVE = 1100, CHECKS_OF_CHECK = 1160, CHECKS_OF_COST = 1220 };
+
+/* The answer in the place of the library's. */
+uint32_t judge_lanes(int first, const struct lane_sizes *n, bool has_matrix);
+
+/* An accepted derivation with several lanes in the place of the library's; false if nothing is wrong in its key. */
+bool derive_wrongly(const struct lane_sizes *n, const uint8_t *password, const uint8_t *salt, uint8_t *key,
+                    uint64_t *matrix);
+
+/* What an accepted derivation makes on its way; the matrix is to be freed. */
+void derive_beside(const struct lane_sizes *n, const uint8_t *password, const uint8_t *salt, struct lane_end *end);
+
 /* Leaves up to eight bytes on the stack, where no word starts, as a function does that does not wipe its own place. */
 void leave(const uint8_t *bytes, size_t count);
 

@@ -7,13 +7,13 @@
 #include <stdio.h>
 #include <string.h>
 
-enum { SIDES = 4, MOST_SMALL_ROWS = 100, MOST_SMALL_LANES = 12 };
+enum { SIDES = 4, MOST_SMALL_ROWS = 100, MOST_SMALL_LANES = 12, MOST_LENT = 1 << 17 };
 
-/* Rows that every number of lanes but 7 goes with: 480 is a multiple of 2, 4, 6, 8, 10, 12 and 16, and not of 14. */
+/* 144 rows are a multiple of 2, 4, 6, 8, 12 and 16, and of 18, which 9 lanes would take; and neither of 10 nor of 14. */
 static struct lane_sizes base(void)
 {
     struct lane_sizes n = accepted_lanes;
-    n.rows = 480;
+    n.rows = 144;
     return fitting_lanes(n);
 }
 
@@ -191,27 +191,30 @@ static void pair_checks(enum lane_operation operation)
 
 /* ---- numbers of 64 bits */
 
-/* Accepted numbers with one bit more; the lengths of what is lent have no such bits. */
+/* Accepted numbers with one bit more. Only the cost question can be told of lengths that no memory has. */
 static void require_bit(size_t bit)
 {
     static const struct {
         size_t place;
         uint32_t due;
+        bool is_length;
     } numbers[] = {
-        {offsetof(struct lane_sizes, time), LYRA2_REFUSED_TIME},
-        {offsetof(struct lane_sizes, rows), LYRA2_REFUSED_ROWS},
-        {offsetof(struct lane_sizes, columns), LYRA2_REFUSED_COLUMNS},
-        {offsetof(struct lane_sizes, lanes), LYRA2_REFUSED_LANES},
-        {offsetof(struct lane_sizes, key), LYRA2_REFUSED_KEY},
-        {offsetof(struct lane_sizes, password), LYRA2_REFUSED_PASSWORD},
-        {offsetof(struct lane_sizes, salt), LYRA2_REFUSED_SALT_TOO_LONG},
+        {offsetof(struct lane_sizes, key), LYRA2_REFUSED_KEY, true},
+        {offsetof(struct lane_sizes, password), LYRA2_REFUSED_PASSWORD, true},
+        {offsetof(struct lane_sizes, salt), LYRA2_REFUSED_SALT_TOO_LONG, true},
+        {offsetof(struct lane_sizes, time), LYRA2_REFUSED_TIME, false},
+        {offsetof(struct lane_sizes, rows), LYRA2_REFUSED_ROWS, false},
+        {offsetof(struct lane_sizes, columns), LYRA2_REFUSED_COLUMNS, false},
+        {offsetof(struct lane_sizes, lanes), LYRA2_REFUSED_LANES, false},
     };
     for (size_t i = 0; i < sizeof numbers / sizeof *numbers; i++) {
         struct lane_sizes n = base();
         *(size_t *)((uint8_t *)&n + numbers[i].place) |= bit;
         require_lane_answer("a bit", LANES_COST, n, numbers[i].due);
-        for (enum lane_operation operation = LANES_DERIVE; i < 4 && operation < LANES_COST; operation++)
-            require_lane_answer("a bit", operation, n, numbers[i].due);
+        if (!numbers[i].is_length || bit <= MOST_LENT) {
+            require_lane_answer("a bit", LANES_DERIVE, n, numbers[i].due);
+            require_lane_answer("a bit", LANES_CHECK, n, numbers[i].due);
+        }
     }
 }
 
