@@ -60,7 +60,7 @@ report() { # FAULT PROGRAM
     cc "$wrapped" "$work"/{"$2",watched,calls,book_model,lent}.o "${faulty[@]}" "$library" -o "$work/faulty" || exit 1
     memcheck "$work/faulty" 2>&1 && echo 'nothing is found'
 }
-for program in memcheck memcheck_lines memcheck_choices memcheck_books; do
+for program in memcheck memcheck_lines memcheck_choices memcheck_books memcheck_lanes; do
     same 'the wrapped library without a fault' 'nothing is found' "$(report 0 $program | tail -n 1)"
 done
 found=0
@@ -69,6 +69,7 @@ while read -r fault words; do
     1) program=memcheck_lines ;;
     5) program=memcheck_choices ;;
     [789]) program=memcheck_books ;;
+    1?) program=memcheck_lanes ;;
     *) program=memcheck ;;
     esac
     report "$fault" $program >"$work/log" || true
@@ -162,6 +163,32 @@ done <<'END'
 943 Invalid write of size 8
 944 same: depends on what the memory held
 945 values: depends on what the memory held
+1013 key: depends on what the memory held
+1309 counts: depends on what the memory held
+1311 counts: depends on what the memory held
+1331 counts: depends on what the memory held
+1350 Invalid write of size 8
+1351 counts: depends on what the memory held
+1360 matrix: byte 0 is not zero
+1361 matrix: byte 376 is not zero
+1364 matrix: written past its used part
+1366 Invalid write of size 8
+1367 Invalid write of size 8
+1370 matrix: byte 0 is not zero
+1374 matrix: written past its used part
+1376 Invalid write of size 8
+1380 Invalid write of size 1
+1381 Invalid read of size 1
+1392 same: depends on what the memory held
+1394 Invalid write of size 4
+1401 Invalid read of size 1
+1402 Invalid read of size 1
+1403 key: depends on what the memory held
+1404 Invalid write of size 8
+1405 Invalid read of size 1
+1406 Conditional jump or move depends on uninitialised value
+1407 same: depends on what the memory held
+1408 counts: depends on what the memory held
 END
 calls=$(awk '{ sum += $(NF - 1) } END { print sum }' "$work/ran")
 echo "valgrind: $calls calls without an error, $found faulty libraries were found"

@@ -105,6 +105,13 @@ static volatile uint8_t seen;
 
 /* ---- the counts */
 
+/* What the memory of the rounds held, if a fault is about that. */
+static uint64_t held_rounds(const uint64_t *counts)
+{
+    bool about = (FAULT >= COUNTS_OF_DERIVE && FAULT < MATRIX_OF_DERIVE) || FAULT == COUNTS_FROM_WHAT_WAS_HELD;
+    return about ? counts[LYRA2_ROUNDS] : 0;
+}
+
 static void spoil_accepted_counts(int fault, const struct lane_sizes *n, uint64_t *counts)
 {
     uint64_t *full = &counts[LYRA2_FULL_CALLS], *reduced = &counts[LYRA2_REDUCED_CALLS];
@@ -128,7 +135,7 @@ static void spoil_accepted_counts(int fault, const struct lane_sizes *n, uint64_
     counts[LYRA2_ROUNDS] = 12 * *full + *reduced + (fault == A_ROUND_MORE);
 }
 
-/* Changes the counts of a call; `held` is what the memory of the rounds held. */
+/* Changes the counts of a call. */
 static void spoil_counts(int first, const struct lane_sizes *n, uint32_t answer, uint64_t held, uint64_t *counts)
 {
     int fault = FAULT - first;
@@ -186,18 +193,20 @@ static void scrub(void)
 static void leave_secrets(const struct lane_sizes *n, const uint8_t *password, const uint8_t *salt)
 {
     static struct lane_end end;
+    static uint64_t secret;
     size_t last = n->lanes - 1;
     derive_beside(n, password, salt, &end);
-    scrub();
     if (FAULT == DERIVE_LEAVES_THE_LAST_STATE)
-        leave((const uint8_t *)&end.states[last][LYRA2_STATE_WORDS - 1], 8);
+        secret = end.states[last][LYRA2_STATE_WORDS - 1];
     if (FAULT == CHECK_LEAVES_THE_FIRST_STATE)
-        leave((const uint8_t *)&end.states[0][0], 8);
-    if (FAULT == DERIVE_LEAVES_THE_LAST_LANES_KEY)
-        leave((const uint8_t *)&end.squeezed[last][0], 8);
+        secret = end.states[0][0];
+    if (has(DERIVE_LEAVES_THE_LAST_LANES_KEY, last > 0))
+        secret = end.squeezed[last][0];
     if (FAULT == DERIVE_LEAVES_THE_MATRIX)
-        leave((const uint8_t *)&end.matrix[LYRA2_MATRIX_WORDS(n->rows, n->columns) - 1], 8);
+        secret = end.matrix[LYRA2_MATRIX_WORDS(n->rows, n->columns) - 1];
     free(end.matrix);
+    scrub();
+    leave((const uint8_t *)&secret, sizeof secret);
 }
 
 /* ---- the operations */
@@ -243,7 +252,7 @@ static void spoil_derivation(const struct lane_sizes *n, uint32_t answer, const 
 uint32_t __wrap_lyra2_lanes_derive(DERIVE_PARAMETERS)
 {
     const struct lane_sizes n = {key_len, password_len, salt_len, time, rows, columns, lanes, matrix_words};
-    volatile uint64_t held = counts[LYRA2_ROUNDS];
+    volatile uint64_t held = held_rounds(counts);
     uint32_t answer = judge_lanes(CHECKS_OF_DERIVE, &n, true);
     bool accepted = answer == LYRA2_ACCEPTED;
     uint64_t matrix_held = has(KEY_FROM_WHAT_WAS_HELD, accepted) ? matrix[0] : 0;
@@ -310,8 +319,6 @@ static void spoil_check(const struct lane_sizes *n, uint32_t answer, const uint8
         *(volatile uint64_t *)matrix = *(volatile uint64_t *)matrix;
     if (has(REFUSED_STORED_READ, answer == LYRA2_REFUSED_LANES))
         seen = stored[0];
-    if (FAULT == SAME_FROM_WHAT_WAS_HELD)
-        *same += held - *(volatile uint32_t *)&held;
     if (has(CHECK_LEAVES_THE_KEY, accepted))
         leave(stored, n->key);
     if (has(CHECK_LEAVES_A_BYTE, accepted))
@@ -325,8 +332,8 @@ static void spoil_check(const struct lane_sizes *n, uint32_t answer, const uint8
 uint32_t __wrap_lyra2_lanes_check(CHECK_PARAMETERS)
 {
     const struct lane_sizes n = {stored_len, password_len, salt_len, time, rows, columns, lanes, matrix_words};
-    volatile uint64_t held = counts[LYRA2_ROUNDS];
-    volatile uint32_t same_held = *same;
+    volatile uint64_t held = held_rounds(counts);
+    volatile uint32_t same_held = FAULT == REFUSED_SAME_KEPT || FAULT == SAME_FROM_WHAT_WAS_HELD ? *same : 0;
     uint32_t answer = judge_lanes(CHECKS_OF_CHECK, &n, true);
     bool accepted = answer == LYRA2_ACCEPTED;
     *same = 0;
@@ -338,6 +345,8 @@ uint32_t __wrap_lyra2_lanes_check(CHECK_PARAMETERS)
         __real_lyra2_lanes_check(password, password_len, salt, salt_len, time, rows, columns, lanes, stored, stored_len,
                                  matrix, matrix_words, same, counts);
     spoil_check(&n, answer, password, salt, stored, matrix, same_held, same);
+    if (FAULT == SAME_FROM_WHAT_WAS_HELD)
+        *same += same_held - same_held;
     spoil_matrix(MATRIX_OF_CHECK, &n, answer, matrix);
     spoil_counts(COUNTS_OF_CHECK, &n, answer, held, counts);
     return answer;
@@ -346,7 +355,7 @@ uint32_t __wrap_lyra2_lanes_check(CHECK_PARAMETERS)
 uint32_t __wrap_lyra2_lanes_cost(COST_PARAMETERS)
 {
     const struct lane_sizes n = {key_len, password_len, salt_len, time, rows, columns, lanes, 0};
-    volatile uint64_t held = counts[LYRA2_ROUNDS];
+    volatile uint64_t held = held_rounds(counts);
     uint32_t answer = judge_lanes(CHECKS_OF_COST, &n, false);
     if (answer != LYRA2_ACCEPTED)
         refuse(answer, counts);

@@ -80,8 +80,8 @@ static void require_no_secret(const struct side *side, const char *name)
     require_absent(side, name, "key", side->key, n.key, 1);
     require_absent(side, name, "password", side->password, n.password, 1);
     require_absent(side, name, "end matrix", side->end.matrix, 8 * n.matrix, 8);
-    require_absent(side, name, "states after the visits", side->end.states, states, 8);
-    require_absent(side, name, "states after the keys", side->end.squeezed, states, 8);
+    require_absent(side, name, "lanes' state after the visits", side->end.states, states, 8);
+    require_absent(side, name, "lanes' state after the keys", side->end.squeezed, states, 8);
 }
 
 /* The words in which the stacks differ by more than picks; `most_bytes` keeps the bytes in which they do. */
