@@ -787,7 +787,7 @@ done <<'END'
 END
 # In the counts.
 while read -r place program words; do
-    is_found_in "$place" "$words" $program derive:1300 check:1320 cost:1340
+    is_found_in "$place" "$words" "$program" derive:1300 check:1320 cost:1340
 done <<'END'
 0 lanes the lanes and rows: the number of full calls is 3, where 2 is due
 1 lanes the lanes and rows: the number of reduced calls is 7, where 8 is due
@@ -804,7 +804,7 @@ done <<'END'
 END
 # In the matrix.
 while read -r place program words; do
-    is_found_in "$place" "matrix: $words" $program derive:1360 check:1370
+    is_found_in "$place" "matrix: $words" "$program" derive:1360 check:1370
 done <<'END'
 0 lanes byte 0 is 01, where 0 is due
 1 lanes byte 376 is 01, where 0 is due
@@ -817,7 +817,7 @@ done <<'END'
 END
 # In what else the derivation and the check store.
 while read -r fault program words; do
-    is_found_in "$fault" "$words" $program derive:0
+    is_found_in "$fault" "$words" "$program" derive:0
 done <<'END'
 1380 lanes key: changed about byte 30, of which 32 are lent and 32 used
 1381 lane_refusals key: changed about byte -?[0-9], of which 1025 are lent and 0 used
@@ -827,7 +827,7 @@ done <<'END'
 1385 lanes the lanes and rows: a byte of the key is [0-9]*, where [0-9]* is due
 END
 while read -r fault program words; do
-    is_found_in "$fault" "$words" $program check:0
+    is_found_in "$fault" "$words" "$program" check:0
 done <<'END'
 1390 lanes the lanes and rows: same is 1, where 0 is due
 1391 lanes the lanes and rows: same is 0, where 1 is due

@@ -82,7 +82,8 @@ static struct lane_sizes with_rows(size_t lanes, size_t lane_rows, size_t column
     return n;
 }
 
-/* From the fewest rows on; the first meeting of Setup is after row 4 of a lane, and the window grows at rows 5 and 9. */
+/* The meetings of Setup follow row 4 of a lane and from there on every second row, from row 16 on every fourth and from
+ * row 64 on every eighth: lanes of these rows have none, one, several, and some between which the interval grows. */
 static void require_shapes(void)
 {
     static const size_t lane_rows[] = {LYRA2_LANE_ROWS_MIN, 6, 8, 10, 12, 16, 18, 34, 66};
