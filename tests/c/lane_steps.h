@@ -261,7 +261,7 @@ static void fill_rows(struct lanes *all)
 
 /* ---- the visits */
 
-/* Words of the output go before the columns, but for the one that picks a column: it is read anew for each. */
+/* Both rows and the other lane are picked once, and a column of the previous row anew before each call. */
 static void visit(struct lanes *all, size_t i)
 {
     struct lane *lane = &all->lane[i];

@@ -254,7 +254,7 @@ static void require_walk_limits(void)
 /* Every answer has a sentence of its own. */
 static void require_own_sentences(void)
 {
-    for (uint32_t i = 0; i <= LYRA2_REFUSED_NOTHING_FITS + 1; i++)
+    for (uint32_t i = 0; i <= LYRA2_REFUSED_LANES + 1; i++)
         for (uint32_t j = 0; j < i; j++)
             if (strcmp(lyra2_sentence(i), lyra2_sentence(j)) == 0)
                 fail("%u and %u have the same sentence", i, j);
