@@ -27,7 +27,8 @@
  *               the key and mostly the password too, since the steps can be undone. The matrix of any other call needs
  *               no wiping: accepted, the call ends with zeros in its used words, and they can be lent on at once;
  *               refused, it leaves in them what they held.
- * Stack         Less than LYRA2_STACK_BYTES. A call clears its state there: no word of the key, the password or the
+ * Stack         Less than LYRA2_STACK_BYTES; lyra2_lanes_derive and lyra2_lanes_check, which keep a state for each lane,
+ *               less than LYRA2_LANES_STACK_BYTES. A call clears its state there: no word of the key, the password or the
  *               matrix was found afterwards, and of the state only what a recorded derivation returns. This is measured
  *               and not promised. Registers are not cleared.
  */
@@ -137,6 +138,7 @@ extern "C" {
 #define LYRA2_STATE_WORDS 16
 #define LYRA2_CELL_WORDS 12
 #define LYRA2_STACK_BYTES 2048
+#define LYRA2_LANES_STACK_BYTES 3072
 
 /*
  * The counts of a call, by their place: LYRA2_ROUNDS is 12 for each full call and `rounds` for each reduced one, with

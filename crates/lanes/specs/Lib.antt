@@ -4,3 +4,4 @@ pub mod Meetings
 pub mod LaneSetup
 pub mod LaneVisits
 pub mod Room
+pub mod Orders

@@ -6,7 +6,7 @@ use native.Mathlib.Omega.{arith}
 use mathlib.Core.List.{List}
 use Rattle.lists.specs.Loop.{loop}
 use Rattle.lists.specs.Zip.{cleared}
-use Rattle.lists.proofs.LoopLaws.{loop-ind}
+use Rattle.lists.proofs.LoopLaws.{loop-keeps-below}
 use Rattle.settings.specs.Settings.{Settings}
 use Rattle.setup_order.specs.SetupOrder.{order}
 use Rattle.setup_order.proofs.Windows.{row1-lt}
@@ -24,10 +24,6 @@ use Rattle.lanes.proofs.Halves.{in-lane}
 use Rattle.lanes.proofs.InTurn.{row-least}
 use Rattle.input.specs.Input.{Input}
 use Rattle.lanes_derivation.specs.LanesDerivation.{rowsEach, inputStates, lanesSetupEnd, lanesEnd}
-
--- what is left of a matrix without its first N cells is the same before a loop's steps and after them
-same-loop : {A : Type 0} (rest : A → List ℕ) (f : ℕ → A → A) (k : ℕ) → ((i : ℕ) → i < k → (a : A) → rest (f i a) ≡ rest a) → (a : A) → rest (loop f k a) ≡ rest a
-same-loop rest f k step = loop-ind f (λ i g. (a : _) → rest (g a) ≡ rest a) (λ a. refl) k (λ i lt g before a. step i lt (g a) ∙ before a)
 
 module _ (S : Settings) (p n : ℕ) where
   abbrev C : ℕ
@@ -72,10 +68,10 @@ module _ (S : Settings) (p n : ℕ) where
   setup-within : 3 ≤ n → 1 ≤ p → (w : Works) → rest (setupLanes S p n w) ≡ rest w
   unfolding setupLanes setupInTurn laneSetup laneFirstRows
   setup-within least pos w =
-      same-loop rest _ n
-      (λ t less. same-loop rest _ p
+      loop-keeps-below rest _ n
+      (λ t less. loop-keeps-below rest _ p
       (λ i hi v. rows-within i hi ((i + t) % p) (firstRow t - 3) (rowsIn n t) (mod-lt (i + t) pos) (in-rows t) _)) _
-      ∙ same-loop rest _ p (λ i hi v. first-within i hi least _) w
+      ∙ loop-keeps-below rest _ p (λ i hi v. first-within i hi least _) w
     where
       in-rows : (t d : ℕ) → d < rowsIn n t → 3 + (firstRow t - 3 + d) < n
       in-rows t d less = omega (arith, row-least t)
@@ -91,12 +87,12 @@ module _ (S : Settings) (p n : ℕ) where
 
     lane-within : (count : ℕ) (w : LaneWalk) → cleared (12 * N) (visitsOf S p n t i count w .done .matrix) ≡ cleared (12 * N) (w .done .matrix)
     unfolding visitsOf visitOf
-    lane-within count = same-loop (λ (w : LaneWalk). cleared (12 * N) (w .done .matrix)) _ count (λ k less v. visited-within (v .done .state) (v .prev0) (v .done))
+    lane-within count = loop-keeps-below (λ (w : LaneWalk). cleared (12 * N) (w .done .matrix)) _ count (λ k less v. visited-within (v .done .state) (v .prev0) (v .done))
 
   wander-within : 2 ≤ n → (l : Lanes) → rest (wanderLanes S p n l .done) ≡ rest (l .done)
   unfolding wanderLanes visitsInTurn
   wander-within half =
-      same-loop (λ (l : Lanes). rest (l .done)) _ (n * S .time) (λ t less. same-loop (λ (l : Lanes). rest (l .done)) _ p (λ i hi l. lane-within half t i hi _ _))
+      loop-keeps-below (λ (l : Lanes). rest (l .done)) _ (n * S .time) (λ t less. loop-keeps-below (λ (l : Lanes). rest (l .done)) _ p (λ i hi l. lane-within half t i hi _ _))
 
 -- a whole derivation
 pub lanes-within : (S : Settings) (p : ℕ) (x : Input) (m : List ℕ) → 1 ≤ p → 3 ≤ rowsEach S p

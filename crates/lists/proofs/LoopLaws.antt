@@ -41,3 +41,12 @@ pub loop-same : {A : Type 0} (f g : ℕ → A → A) (n : ℕ) (a : A) → ((i :
 unfolding loop
 loop-same f g zero a same = refl
 loop-same f g (suc n) a same = same n (omega arith) (loop f n a) ∙ ap (g n) (loop-same f g n a (λ i lt. same i (omega arith)))
+
+-- what no step changes
+pub loop-keeps-below : {A B : Type 0} (g : A → B) (f : ℕ → A → A) (n : ℕ) → ((i : ℕ) → i < n → (a : A) → g (f i a) ≡ g a) → (a : A) → g (loop f n a) ≡ g a
+unfolding loop
+loop-keeps-below g f zero same a = refl
+loop-keeps-below g f (suc n) same a = same n (omega arith) (loop f n a) ∙ loop-keeps-below g f n (λ i lt. same i (omega arith)) a
+
+pub loop-keeps : {A B : Type 0} (g : A → B) (f : ℕ → A → A) (n : ℕ) → ((i : ℕ) (a : A) → g (f i a) ≡ g a) → (a : A) → g (loop f n a) ≡ g a
+loop-keeps g f n same = loop-keeps-below g f n (λ i lt. same i)

@@ -1,0 +1,4 @@
+-- The theorems about several lanes.
+pub mod KeysOrder
+pub mod LanesAnyOrder
+pub mod LanesIndependence

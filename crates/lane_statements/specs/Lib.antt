@@ -1,0 +1,2 @@
+-- A derivation with several lanes in other orders.
+pub mod LanesOrders
