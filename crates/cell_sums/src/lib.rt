@@ -7,7 +7,7 @@ ghost use Rattle.mixer.specs.Word.{plainSum};
 ghost use Rattle.profile.specs.Profile.{cellWords};
 ghost use Rattle.cell_sums.specs.CellSum.{cellSum};
 
-fn sum3(a: u64, b: u64, c: u64) -> u64
+pub fn sum3(a: u64, b: u64, c: u64) -> u64
     ensures { λ r. ⌜ r ≡ plainSum (plainSum a b) c ⌝ }
 {
     std::num::wrapping_add_u64(std::num::wrapping_add_u64(a, b), c)

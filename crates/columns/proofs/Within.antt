@@ -4,17 +4,16 @@ use mathlib.Core.Path.{_≡_, refl, _∙_}
 use Prim.Native.Nat.{ℕ, _+_, _-_, _*_, _≤_, _<_}
 use native.Mathlib.Omega.{arith}
 use mathlib.Core.List.{List}
-use lib.ListN.{length, drop, length-take}
+use lib.ListN.{length}
 use lib.Bits.{bitXor}
-use Rattle.lists.specs.Zip.{zipAt, xorInto, cleared}
+use Rattle.lists.specs.Zip.{zipAt, cleared}
 use Rattle.lists.specs.Loop.{loop}
 use Rattle.lists.proofs.Cleared.{cleared-zipAt}
 use Rattle.lists.proofs.LoopLaws.{loop-ind}
-use Rattle.lists.proofs.ZipLaws.{length-zip}
 use Rattle.sponge.specs.Sponge.{rand}
 use Rattle.sponge.proofs.Output.{length-rand}
 use Rattle.settings.specs.Settings.{Settings}
-use Rattle.matrix.specs.Cells.{cellFrom, rotated}
+use Rattle.matrix.specs.Cells.{rotated}
 use Rattle.matrix.proofs.CellLaws.{length-rotated, length-xored}
 use Rattle.columns.specs.Columns.{Work, fillColumn, copyColumn, setupWritten, setupColumn, visitWritten, visitColumn}
 use Rattle.columns.specs.declared.Rows.{Rows}

@@ -10,7 +10,6 @@ use lib.ListN.{length, getD, set, replicate, length-set, length-replicate, getD-
 use lib.Seq.{getD-set-same, getD-set-other}
 use lib.Bits.{bitXor}
 use Rattle.lists.specs.Loop.{loop}
-use Rattle.lists.specs.Zip.{xorInto}
 use Rattle.lists.proofs.LoopLaws.{loop-more, loop-same}
 use Rattle.lists.proofs.ZipLaws.{length-zip, getD-zip}
 use Rattle.key.specs.Key.{keyBytes, fullCalls, squeezed, piece, pieces, callsBetween, callsBefore}

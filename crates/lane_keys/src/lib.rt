@@ -5,11 +5,10 @@ use key_bytes::Next;
 use key_bytes::next_byte;
 use mixer::Mixer;
 ghost use mathlib.Core.Path.{_≡_};
-ghost use Prim.Native.Nat.{_*_, _%_, _<_, _≤_, _^_};
-ghost use mathlib.Core.List.{[]};
-ghost use lib.ListN.{length, getD};
+ghost use Prim.Native.Nat.{_*_, _<_, _^_};
+ghost use lib.ListN.{length};
 ghost use Rattle.mixer.specs.Mixers.{sumOf};
-ghost use Rattle.key.specs.Key.{callsBetween, callsBefore, sameBytes};
+ghost use Rattle.key.specs.Key.{callsBetween, sameBytes};
 ghost use Rattle.lane_keys.specs.LaneKeys.{keysXored};
 ghost use Rattle.lane_keys.specs.Arrived.{Arrived};
 
@@ -48,7 +47,12 @@ pub fn squeeze_lanes(states: &mut [[u64; 16]], lanes: usize, key: &mut [u8], mix
 
 // Compares a stored key with the key of the same length, which is never stored. Every byte is compared, so the time does not tell where the
 // two differ.
-pub fn compare_lanes(states: &mut [[u64; 16]], lanes: usize, stored: &[u8], mixer: Mixer) -> Comparison
+pub fn compare_lanes(
+    states: &mut [[u64; 16]],
+    lanes: usize,
+    stored: &[u8],
+    mixer: Mixer,
+) -> Comparison
     requires { ⌜ (length (now states) ≡ lanes) × (lanes < 2 ^ 16) × (length (now stored) < 2 ^ 32) ⌝ }
     ensures { λ r. ⌜ (r .same ≡ sameBytes (now (stored .entry)) (keysXored (sumOf mixer) lanes (length (now (stored .entry))) (now (states .entry)))) × (r .calls ≡ lanes * callsBetween (length (now (stored .entry)))) ⌝ }
 {

@@ -9,7 +9,7 @@ use places::Row;
 use plain_runs::Calls;
 use settings::Parameters;
 ghost use mathlib.Core.Path.{_≡_};
-ghost use Prim.Native.Nat.{_+_, _*_, _-_, _≤_, _<_, _^_};
+ghost use Prim.Native.Nat.{_+_, _*_, _-_, _≤_, _<_};
 ghost use lib.ListN.{length, replicate};
 ghost use Rattle.lists.specs.Loop.{loop};
 ghost use Rattle.lists.specs.Zip.{tabulate};
@@ -85,7 +85,13 @@ fn last_rows(prevs: &mut [usize], lanes: Shape)
 }
 
 // The last cell of each lane, absorbed with a full call. The answer counts them.
-fn close_lanes(states: &mut [[u64; 16]], prevs: &[usize], m: &[u64], lanes: Shape, p: Parameters) -> u64
+fn close_lanes(
+    states: &mut [[u64; 16]],
+    prevs: &[usize],
+    m: &[u64],
+    lanes: Shape,
+    p: Parameters,
+) -> u64
     requires { ⌜ Room (p .columns) (lanes .lanes) (lanes .rows) (length (now m)) × (length (now states) ≡ lanes .lanes) × (length (now prevs) ≡ lanes .lanes) × Below (lanes .lanes * lanes .rows) (now prevs) ⌝ }
     ensures { λ r. ⌜ (r ≡ lanes .lanes) × (now (states .exit) ≡ finalStates (settings p) (lanes .lanes) («lanes-of» (works (now (states .entry)) (now (m .entry))) (now (prevs .entry)))) ⌝ }
 {

@@ -1,12 +1,10 @@
 -- Every order of the lanes' visits between two meetings, and every order in which their keys arrive, ends with the same states and matrix
 -- and gives the same key as the lanes in turn: for every accepted call. Assumes nothing.
-use mathlib.Core.Path.{_≡_, refl, sym, ap, _∙_}
-use Prim.Native.Nat.{ℕ, _+_, _-_, _*_, _/_, _<_, _≤_}
+use mathlib.Core.Path.{_≡_, ap, _∙_}
+use Prim.Native.Nat.{ℕ, _+_, _-_, _*_, _≤_}
 use native.Mathlib.Omega.{arith}
-use mathlib.Core.List.{List, []}
-use lib.ListN.{length, getD, set, replicate, length-set, length-replicate}
-use Rattle.lists.specs.Loop.{loop}
-use Rattle.lists.specs.Zip.{tabulate}
+use mathlib.Core.List.{List}
+use lib.ListN.{length, length-set, length-replicate}
 use Rattle.lists.proofs.LoopLaws.{loop-keeps}
 use Rattle.lists.proofs.ZipLaws.{length-tabulate, getD-tabulate}
 use Rattle.profile.specs.Profile.{start}

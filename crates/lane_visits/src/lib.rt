@@ -9,7 +9,7 @@ use places::Column;
 use places::Row;
 use settings::Parameters;
 ghost use mathlib.Core.Path.{_≡_};
-ghost use Prim.Native.Nat.{_*_, _+_, _/_, _%_, _<_, _≤_, _^_, suc};
+ghost use Prim.Native.Nat.{_*_, _+_, _/_, _%_, _<_, _≤_, _^_};
 ghost use lib.ListN.{length};
 ghost use Rattle.settings.specs.Settings.{settings};
 ghost use Rattle.columns.specs.Bounds.{startsOf, Within};
@@ -82,7 +82,10 @@ fn visit(
     let rows = pick_rows(s, prev0, lanes, t, i, p);
     let calls = visit_row(s, m, rows, p);
     let row0 = rows.row0;
-    LaneVisited { row0: row0.0, calls }
+    LaneVisited {
+        row0: row0.0,
+        calls,
+    }
 }
 
 // So many visits of lane i in interval t.

@@ -91,7 +91,7 @@ module _ {A : Type 0} (p : ℕ) (step : ℕ → A → A) (Good : A → Type 0) (
       ap (steps q (c q)) (past-turn c q j (omega arith) lt a good ∙ ap (λ (k : ℕ). step k (inTurn c q a)) here)
       ∙ more-steps q (c q) (inTurn c q a)
       ∙ ap₂ (λ (n : ℕ) (b : A). steps q n b) (sym (turn-here c q) ∙ ap (λ (k : ℕ). once k q + c q) (sym here))
-          (same-turn c (λ i. once j i + c i) q (λ i less. sym (turn-else c i j (λ e. omega arith))) a)
+      (same-turn c (λ i. once j i + c i) q (λ i less. sym (turn-else c i j (λ e. omega arith))) a)
 
   first-turn : (c : ℕ → ℕ) (q j : ℕ) → q ≤ p → j < q → (a : A) → Good a → inTurn c q (step j a) ≡ inTurn (λ i. once j i + c i) q a
   unfolding loop

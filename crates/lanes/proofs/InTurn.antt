@@ -1,12 +1,12 @@
 -- Where the rows of the lanes lie, and the lanes in turn: a lane more, and lanes that have nothing to do. Assumes nothing.
 use mathlib.Core.Path.{_≡_, refl, sym, ap, ap₂, _∙_}
 use mathlib.Core.Logic.{_⊎_, inl, inr}
-use Prim.Native.Nat.{ℕ, zero, suc, _+_, _-_, _*_, _/_, _%_, _≤_, _<_, _^_, min}
+use Prim.Native.Nat.{ℕ, zero, suc, _+_, _-_, _*_, _/_, _≤_, _<_, min}
 use native.Mathlib.Nat.{add-zero, add-suc, mul-le-mul, le-trans, mul-le-mul-right, mul-le-mul-left, one-mul, mul-one, mul-add, add-mul, suc-mul}
 use native.Mathlib.Decide.{ℕ-discrete, decLt}
 use native.Mathlib.Omega.{arith}
 use mathlib.Core.List.{List, []}
-use lib.ListN.{length, getD, set}
+use lib.ListN.{length, set}
 use lib.Seq.{getD-set-same, getD-set-other, set-getD, set-out}
 use Rattle.lists.specs.Loop.{loop}
 use Rattle.lists.proofs.LoopLaws.{loop-idle}

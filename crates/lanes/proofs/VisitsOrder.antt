@@ -118,8 +118,10 @@ module _ (S : Settings) (p n t : ℕ) (half : 2 ≤ n) where
       let theirs : walkOf j (visit i l) ≡ laneWalk (work u (v .matrix)) (getD (l .prevs) j 0) =
       λ k. laneWalk (work (getD-set-other states i j (v .state) [] (λ q. ne (sym q)) k) (v .matrix)) (getD-set-other (l .prevs) i j (r .row0 .0) 0 (λ q. ne (sym q)) k) in
       ap (λ (x : LaneWalk). put i (visitOf S p n t i x) (visit j l)) mine
-      ∙ (λ k. record { done = record { states = (ap₂ (λ (a b : List ℕ). set (set states j a) i b) (e .1) (e .0) ∙ set-comm states j i _ _ (λ q. ne (sym q))) k; matrix = e .2 k };
-        prevs = set-comm (l .prevs) j i (r′ .row0 .0) (r .row0 .0) (λ q. ne (sym q)) k })
+      ∙ (λ k. record {
+        done = record { states = (ap₂ (λ (a b : List ℕ). set (set states j a) i b) (e .1) (e .0) ∙ set-comm states j i _ _ (λ q. ne (sym q))) k; matrix = e .2 k };
+        prevs = set-comm (l .prevs) j i (r′ .row0 .0) (r .row0 .0) (λ q. ne (sym q)) k;
+      })
       ∙ ap (λ (x : LaneWalk). put j (visitOf S p n t j x) (visit i l)) (sym theirs)
 
   -- one lane's visits, made one by one
@@ -147,8 +149,7 @@ module _ (S : Settings) (p n t : ℕ) (half : 2 ≤ n) where
   unfolding loop
   in-turn count zero le l good = (refl, good)
   in-turn count (suc q) le l good =
-      let before = in-turn count q (omega arith) l good in
-      (
+      let before = in-turn count q (omega arith) l good in (
         one-by-one q (omega arith) count _ (before .1) ∙ ap (step (λ i. visitsOf S p n t i count) q) (before .0),
         visits-keep q count (omega arith) _ (before .1),
       )
@@ -170,8 +171,7 @@ module _ (S : Settings) (p n : ℕ) (half : 2 ≤ n) (orders : ℕ → List ℕ)
   unfolding loop
   by-orders zero l good = (refl, good)
   by-orders (suc k) l good =
-      let before = by-orders k l good in
-      (
+      let before = by-orders k l good in (
         ap (run (step (visitOf S p n k)) (orders k)) (before .0) ∙ interval-any-order S p n k half (visitsIn S n k) (orders k) (scheduled k) _ (before .1),
         interval-keeps S p n k half (visitsIn S n k) _ (before .1),
       )

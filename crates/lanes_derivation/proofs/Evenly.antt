@@ -1,7 +1,7 @@
 -- Rows that are for so many lanes: they are as many for each, an even number. Assumes nothing.
 use mathlib.Core.Path.{_≡_, sym, ap, _∙_}
 use Prim.Native.Nat.{ℕ, _+_, _*_, _/_, _%_, _≤_}
-use native.Mathlib.Nat.{mul-comm, mul-add, div-add-mod, div-eq-of-eq-mul-right}
+use native.Mathlib.Nat.{mul-add, div-add-mod, div-eq-of-eq-mul-right}
 use native.Mathlib.Omega.{arith}
 
 pub evenly : (R p : ℕ) → 1 ≤ p → R / 2 % p ≤ 0 → R % 2 ≤ 0 → (p * (R / p) ≡ R) × (R / p % 2 ≡ 0)

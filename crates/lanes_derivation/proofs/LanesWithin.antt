@@ -1,29 +1,27 @@
 -- Lanes change the used matrix alone, whatever their states are. Assumes nothing.
-use mathlib.Core.Path.{_≡_, refl, sym, ap, _∙_, subst}
-use Prim.Native.Nat.{ℕ, suc, _+_, _-_, _*_, _/_, _%_, _≤_, _<_, min}
+use mathlib.Core.Path.{_≡_, _∙_, subst}
+use Prim.Native.Nat.{ℕ, _+_, _-_, _*_, _/_, _%_, _≤_, _<_}
 use native.Mathlib.Nat.{mod-lt, add-zero}
 use native.Mathlib.Omega.{arith}
 use mathlib.Core.List.{List}
-use Rattle.lists.specs.Loop.{loop}
 use Rattle.lists.specs.Zip.{cleared}
 use Rattle.lists.proofs.LoopLaws.{loop-keeps-below}
 use Rattle.settings.specs.Settings.{Settings}
 use Rattle.setup_order.specs.SetupOrder.{order}
 use Rattle.setup_order.proofs.Windows.{row1-lt}
-use Rattle.columns.specs.Columns.{Work, fillColumn, copyColumn, setupColumn, pickedBy}
-use Rattle.columns.specs.declared.Rows.{Rows}
+use Rattle.columns.specs.Columns.{pickedBy}
 use Rattle.columns.proofs.RowLaws.{row-before}
 use Rattle.columns.proofs.Within.{ChangesWithin, within-loop, fill-column-within, copy-column-within, setup-column-within, output-within}
 use Rattle.lane_columns.specs.LaneColumns.{laneColumn}
 use Rattle.setup.specs.Setup.{fillRow, copyRow, setupRow, firstRows, rowsWith, setupStep, setupRows}
-use Rattle.lanes.specs.Lanes.{Works, inLane}
+use Rattle.lanes.specs.Lanes.{Works}
 use Rattle.lanes.specs.Meetings.{firstRow, rowsIn}
 use Rattle.lanes.specs.LaneSetup.{laneFirstRows, laneSetup, setupInTurn, setupLanes}
-use Rattle.lanes.specs.LaneVisits.{LaneWalk, Lanes, halfRow, pickedLaneRows, visitedRow, visitOf, visitsOf, step, visitsInTurn, wanderLanes}
+use Rattle.lanes.specs.LaneVisits.{LaneWalk, Lanes, halfRow, pickedLaneRows, visitedRow, visitOf, visitsOf, visitsInTurn, wanderLanes}
 use Rattle.lanes.proofs.Halves.{in-lane}
 use Rattle.lanes.proofs.InTurn.{row-least}
 use Rattle.input.specs.Input.{Input}
-use Rattle.lanes_derivation.specs.LanesDerivation.{rowsEach, inputStates, lanesSetupEnd, lanesEnd}
+use Rattle.lanes_derivation.specs.LanesDerivation.{rowsEach, lanesSetupEnd, lanesEnd}
 
 module _ (S : Settings) (p n : ℕ) where
   abbrev C : ℕ

@@ -1,6 +1,6 @@
 -- What a derivation with several lanes spends.
 use Prim.Native.Nat.{ℕ, _+_, _*_}
-use Rattle.settings.specs.Settings.{Settings, settings, usual}
+use Rattle.settings.specs.Settings.{settings, usual}
 use Rattle.settings.specs.declared.StoredParameters.{StoredParameters}
 use Rattle.settings.specs.declared.Lengths.{Lengths}
 use Rattle.input.specs.Input.{blocks}

@@ -1,22 +1,19 @@
 -- A call with several lanes that no check refuses: what it may ask of a run, its counts and its answer. Assumes nothing.
-use mathlib.Core.Path.{_≡_, refl, sym, ap, ap₂, _∙_, subst}
-use Prim.Native.Nat.{ℕ, zero, suc, _+_, _*_, _/_, _%_, _≤_, _<_, _^_}
+use mathlib.Core.Path.{_≡_, refl, ap, _∙_}
+use Prim.Native.Nat.{ℕ, zero, suc, _+_, _*_, _/_, _%_, _≤_}
 use native.Mathlib.Nat.{mul-le-mul, mul-add, mul-one, le-trans}
 use native.Mathlib.Omega.{arith}
 use mathlib.Core.List.{List, _∷_, _++_}
 use lib.ListN.{length, take, drop, replicate, length-replicate, length-append, length-drop}
-use Rattle.mixer.specs.Mixers.{sumOf}
 use Rattle.settings.specs.Settings.{Settings, settings, usual}
 use Rattle.settings.specs.declared.Parameters.{Parameters}
 use Rattle.settings.specs.declared.StoredParameters.{StoredParameters}
 use Rattle.settings.specs.declared.Lengths.{Lengths}
-use Rattle.padded_input.specs.Padded.{blocks}
 use Rattle.key.specs.Key.{pieces, callsBetween}
 use Rattle.key.proofs.KeyLaws.{pieces-calls}
 use Rattle.refusals.specs.Checks.{Accepted, first, lanesCostChecks, lanesChecks}
 use Rattle.refusals.proofs.Accepted.{accepted, cells-most}
 use Rattle.refusals.proofs.Answered.{answered-yes, answered-no}
-use Rattle.lanes.specs.Room.{Room}
 use Rattle.derivation.specs.Cost.{reducedCost}
 use Rattle.derivation.specs.Answers.{spentOn, noCosts}
 use Rattle.derivation.specs.declared.Costs.{Costs}
@@ -88,8 +85,19 @@ module _ (l : Lengths) (q : StoredParameters) (lanes : ℕ) where
       let pos : 1 ≤ lanes = omega arith in
       let e = evenly (q .rows) lanes pos (omega arith) (omega arith) in
       record {
-        key-least = omega arith; key-most = omega arith; password = omega arith; salt = omega arith; time = omega arith; rows-most = omega arith;
-        columns-least = omega arith; columns-most = omega arith; lanes-least = pos; lanes-most = omega arith; shared = e .0; even = e .1; rows-least = omega arith;
+        key-least = omega arith;
+        key-most = omega arith;
+        password = omega arith;
+        salt = omega arith;
+        time = omega arith;
+        rows-most = omega arith;
+        columns-least = omega arith;
+        columns-most = omega arith;
+        lanes-least = pos;
+        lanes-most = omega arith;
+        shared = e .0;
+        even = e .1;
+        rows-least = omega arith;
       }
 
   pub fits-of : (words : ℕ) → first (lanesChecks l q lanes words) ≡ 0 → Fits l (usual q) lanes words
@@ -97,10 +105,19 @@ module _ (l : Lengths) (q : StoredParameters) (lanes : ℕ) where
       let r = roomy words e in
       let b = bounded (r .0) in
       record {
-        password = b .password; salt = b .salt; time = b .time; lanes-most = b .lanes-most; shared = b .shared;
+        password = b .password;
+        salt = b .salt;
+        time = b .time;
+        lanes-most = b .lanes-most;
+        shared = b .shared;
         room = record {
-          lanes-pos = b .lanes-least; rows-least = b .rows-least; rows-even = b .even; rows-most = omega (arith, b .shared, b .rows-most);
-          columns-pos = b .columns-least; columns-most = b .columns-most; room = rw (b .shared) (r .1);
+          lanes-pos = b .lanes-least;
+          rows-least = b .rows-least;
+          rows-even = b .even;
+          rows-most = omega (arith, b .shared, b .rows-most);
+          columns-pos = b .columns-least;
+          columns-most = b .columns-most;
+          room = rw (b .shared) (r .1);
         };
       }
 

@@ -58,16 +58,7 @@ fn derive_over(
     ensures { λ r. ⌜ Derives p lanes (input (now (password .entry)) (now (salt .entry)) (length (now (key .entry)))) (now (matrix .entry)) (now (key .exit)) (now (matrix .exit)) r ⌝ }
 {
     let mixer = p.mixer;
-    let ran = run_lanes(
-        states,
-        prevs,
-        password,
-        salt,
-        key.len(),
-        p,
-        lanes,
-        matrix,
-    );
+    let ran = run_lanes(states, prevs, password, salt, key.len(), p, lanes, matrix);
     let between = squeeze_lanes(states, lanes, key, mixer);
     spent(ran.full + between, ran.reduced, p)
 }

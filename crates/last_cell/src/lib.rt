@@ -19,9 +19,5 @@ pub fn absorb_last(s: &mut [u64; 16], m: &[u64], row0: Row, p: Parameters)
     ensures { λ _. ⌜ now (s .exit) ≡ lastAbsorbed (settings p) (row0 .0) (work (now (s .entry)) (now (m .entry))) ⌝ }
 {
     let mixer = p.mixer;
-    absorb_cell(
-        s,
-        cell(m, RowStart::of(row0, p.columns), Column(0)),
-        mixer,
-    );
+    absorb_cell(s, cell(m, RowStart::of(row0, p.columns), Column(0)), mixer);
 }

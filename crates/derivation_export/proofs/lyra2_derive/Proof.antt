@@ -8,8 +8,7 @@ use Rattle.settings.specs.Settings.{settings}
 use Rattle.settings.specs.Sizes.{matrixWords}
 use Rattle.settings.specs.declared.Parameters.{Parameters}
 use Rattle.input.specs.Input.{input, lengths}
-use Rattle.key.specs.Key.{sameBytes}
-use Rattle.derivation.specs.Answers.{answered, costAnswer, flag}
+use Rattle.derivation.specs.Answers.{answered, costAnswer}
 use Rattle.derivation.specs.Contracts.{plainNumber}
 use Rattle.derivation.specs.Derivation.{keyOf}
 use Rattle.derivation_export.proofs.lyra2_derive.Statement.{statement}

@@ -22,16 +22,17 @@ use Rattle.lane_columns.proofs.lane_column.Tie as tie
 returns : tie.Need-returns
 unfolding laneColumn laneCells picks
 returns c r e =
-    let a = c .before .before .before .before .before .before .before .before .before .before .before .before .before .before .before .before .before .args in
+    let a = c .before .before .before .before .before .before .before .before .before .before .before .before .before .before .before .before .before .before .before .args in
     let C = a .p .columns in
     let m = now (a .m) in
     let from : ℕ → List ℕ = λ n. cellFrom n m in
-    let picked = c .before .before .before .before .before .before .before .before .before .before .before .before .before .before .pick-columns in
+    let picked = c .before .before .before .before .before .before .before .before .before .before .before .before .before .before .before .before .pick-columns in
     let col0 : picked .result .col1 .0 ≡ pickedBy (settings (a .p)) 3 C (now (a .s)) = ap (λ (q : Picks). q .col1 .0) (picked .ensures .is) in
-    let row0 = c .before .before .before .before .before .before .before .before .before .before .before .cell .ensures .0 ∙ ap from (row0-place C r e (a .col .0)) in
-    let prev0 = c .before .before .before .before .before .before .before .before .before .before .cell2 .ensures .0 ∙ ap from (prev0-place C r e _ ∙ ap (place C (r .prev0 .0)) col0) in
-    let row1 = c .before .before .before .before .before .before .before .before .before .cell3 .ensures .0 ∙ ap from (row1-place C r e (a .col .0)) in
-    let state = c .before .before .before .before .before .before .before .before .duplex-sum3 .ensures ∙ (λ i. absorb (sumOf (a .p .mixer)) (a .p .rounds) (cellSum (cellSum (row0 i) (prev0 i)) (row1 i)) (now (a .s))) in
+    let row0 = c .before .before .before .before .before .before .before .before .before .before .before .before .before .before .cell .ensures .0 ∙ ap from (row0-place C r e (a .col .0)) in
+    let prev0 = c .before .before .before .before .before .before .before .before .before .before .before .before .before .cell2 .ensures .0 ∙ ap from (prev0-place C r e _ ∙ ap (place C (r .prev0 .0)) col0) in
+    let row1 = c .before .before .before .before .before .before .before .before .before .before .before .before .cell3 .ensures .0 ∙ ap from (row1-place C r e (a .col .0)) in
+    let summed = c .before .before .before .before .before .before .before .before .before .before .before .sum-cells .ensures ∙ (λ i. cellSum (cellSum (row0 i) (prev0 i)) (row1 i)) in
+    let state = c .before .before .before .before .before .before .before .before .duplex .ensures ∙ ap (λ (words : List ℕ). absorb (sumOf (a .p .mixer)) (a .p .rounds) words (now (a .s))) summed in
     let at = c .before .before .before .before .before .before .before .cell-start .ensures ∙ row0-place C r e (a .col .0) in
     let out = c .before .before .before .before .before .output .ensures ∙ ap rand state in
     let written = c .before .before .xor-cell .ensures ∙ (λ i. zipAt bitXor (at i) m (out i)) in
@@ -40,4 +41,4 @@ returns c r e =
 pub lane-column-spec : {M : Type 1} → statement M
 lane-column-spec =
     tie.close
-    (tie.spec (omega arith) (omega arith) (omega arith) (omega arith) (omega arith) (omega arith) (omega arith) (omega arith) (omega arith) (omega arith) returns)
+    (tie.spec (omega arith) (omega arith) (omega arith) (omega arith) (omega arith) (omega arith) (omega arith) (omega arith) (omega arith) (omega arith) (omega arith) (omega arith) returns)

@@ -29,8 +29,7 @@ loop-again : tie.Need-loop-again Inv-loop μ-loop
 loop-again c =
     let v = c .before .before .before .before .before .before .loop in
     let next = c .before .before .before .next-of-all .ensures in
-    let lt = c .before .before .before .before .before .loop-test .taken in
-    (
+    let lt = c .before .before .before .before .before .loop-test .taken in (
       omega (arith, lt),
       differing-more (v .inv .1) lt (c .before .differing .ensures) (all-byte _ _ (v .inv .2) next _ lt),
       all-more _ _ (v .inv .2) next,

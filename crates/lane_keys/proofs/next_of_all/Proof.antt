@@ -19,8 +19,7 @@ add-calls c = omega (arith, c .before .before .before .before .before .loop .inv
 loop-again : tie.Need-loop-again Inv-loop μ-loop
 loop-again c =
     let v = c .before .before .before .before .before .loop in
-    let next = c .before .before .next-byte in
-    (
+    let next = c .before .before .next-byte in (
       omega (arith, c .before .before .before .before .loop-test .taken),
       omega (arith, v .inv .1, next .ensures .2, calls-one (c .before .before .before .before .before .before .args .i)),
       arriving-more _ _ _ (v .inv .2) (omega (arith, c .before .before .before .before .loop-test .taken, c .before .before .before .before .before .before .pre .0)) _ _ _ (next .ensures .0) (next .ensures .1) (next .ensures .2),

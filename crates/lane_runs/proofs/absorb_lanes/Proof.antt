@@ -3,7 +3,6 @@ use mathlib.Core.Path.{_≡_, refl, sym, ap, _∙_}
 use Prim.Native.Nat.{ℕ, _-_, _*_, _≤_}
 use native.Mathlib.Omega.{arith}
 use native.Mathlib.Nat.{zero-mul, mul-le-mul}
-use mathlib.Core.List.{List}
 use lib.ListN.{length, set, length-set}
 use denote.Ref.{now}
 use Rattle.lists.proofs.LoopLaws.{loop-none, loop-more, loop-end}
@@ -45,8 +44,7 @@ loop-again c =
     let v = c .before .before .before .loop in
     let a = c .before .before .before .before .before .before .args in
     let absorbed = c .absorb-lane in
-    let l = lengths (input (now (a .password)) (now (a .salt)) (a .key-length)) in
-    (
+    let l = lengths (input (now (a .password)) (now (a .salt)) (a .key-length)) in (
       omega (arith, c .before .before .loop-test .taken),
       omega (arith, v .inv .1, absorbed .ensures .1, row-more (v .i) (laneBlocks l)),
       length-set (v .states) (v .i) (absorbed .last .0) ∙ v .inv .2,

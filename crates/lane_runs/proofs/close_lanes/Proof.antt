@@ -37,8 +37,7 @@ add-calls c = omega (arith, c .before .before .before .before .before .loop .inv
 loop-again : tie.Need-loop-again Inv-loop μ-loop
 loop-again c =
     let v = c .before .before .before .before .before .loop in
-    let absorbed = c .absorb-last in
-    (
+    let absorbed = c .absorb-last in (
       omega (arith, c .before .before .before .if1 .taken),
       ap (λ (n : ℕ). n + 1) (v .inv .1),
       length-set (v .states) (v .i) (absorbed .last .0) ∙ v .inv .2,

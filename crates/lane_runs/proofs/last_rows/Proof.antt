@@ -1,8 +1,7 @@
 -- `last_rows` meets its contract: the loop over the lanes. Assumes nothing.
-use mathlib.Core.Path.{_≡_, refl, sym, _∙_}
-use Prim.Native.Nat.{ℕ, _-_, _+_, _*_, _≤_}
+use mathlib.Core.Path.{sym, _∙_}
+use Prim.Native.Nat.{ℕ, _-_, _+_, _*_}
 use native.Mathlib.Omega.{arith}
-use lib.ListN.{length}
 use Rattle.lists.specs.Zip.{tabulate, zipAt}
 use Rattle.lists.proofs.ZipLaws.{length-tabulate, getD-tabulate, put-all}
 use Rattle.lists.proofs.Placed.{Placed, placed-none, placed-again, placed-end}

@@ -1,6 +1,6 @@
 -- `run_lanes` meets its contract: the inputs, Setup, the visits, the last cells, then zeros. Assumes nothing.
-use mathlib.Core.Path.{_≡_, refl, sym, ap, ap₂, _∙_}
-use Prim.Native.Nat.{ℕ, _+_, _-_, _*_, _/_, _≤_}
+use mathlib.Core.Path.{_≡_, sym, ap, ap₂, _∙_}
+use Prim.Native.Nat.{ℕ, _+_, _*_, _/_, _≤_}
 use native.Mathlib.Nat.{mul-le-mul}
 use native.Mathlib.Omega.{arith}
 use mathlib.Core.List.{List}
@@ -14,7 +14,7 @@ use Rattle.setup_order.specs.declared.Order.{Order}
 use Rattle.input.specs.Input.{input, lengths}
 use Rattle.lanes.specs.Lanes.{works}
 use Rattle.lanes.specs.LaneSetup.{setupLanes}
-use Rattle.lanes.specs.LaneVisits.{Lanes, lanes, wanderLanes}
+use Rattle.lanes.specs.LaneVisits.{lanes, wanderLanes}
 use Rattle.lanes.proofs.InTurn.{few, calls-most}
 use Rattle.lanes_derivation.specs.LanesDerivation.{absorbLane, inputStates, lanesSetupEnd, lanesEnd, finalStates}
 use Rattle.lanes_derivation.proofs.LanesCounted.{blocks-most, lanes-reduced, last-below}
@@ -44,8 +44,7 @@ wander-lanes-requires : tie.Need-wander-lanes-requires
 wander-lanes-requires c κs =
     let pre = c .before .before .before .before .before .before .before .before .before .before .before .before .before .before .before .before .before .before .before .before .before .before .pre in
     let lanes = c .before .before .before .before .before .before .before .before .before .before .before .before .before .before .before .before .before .before .before .before .before .before .args .lanes in
-    let set = c .before .before .before .before .before .before .before .before .before .before .before .set-up-lanes in
-    (
+    let set = c .before .before .before .before .before .before .before .before .before .before .before .set-up-lanes in (
       rw (set .kept .1 .0) (pre .0 .room),
       set .kept .0 ∙ c .before .before .before .before .before .before .before .before .before .before .before .before .before .before .before .absorb-lanes .kept .0 ∙ ap length (pre .1) ∙ length-replicate lanes start,
       c .before .before .before .before .before .last-rows .kept .0 ∙ pre .2,
@@ -59,8 +58,7 @@ close-lanes-requires c κs =
     let pre = c .before .before .before .before .before .before .before .before .before .before .before .before .before .before .before .before .before .before .before .before .before .before .before .before .before .before .before .before .before .before .before .pre in
     let lanes = c .before .before .before .before .before .before .before .before .before .before .before .before .before .before .before .before .before .before .before .before .before .before .before .before .before .before .before .before .before .before .before .args .lanes in
     let set = c .before .before .before .before .before .before .before .before .before .before .before .before .before .before .before .before .before .before .before .before .set-up-lanes in
-    let visited = c .before .before .before .before .before .before .before .before .wander-lanes in
-    (
+    let visited = c .before .before .before .before .before .before .before .before .wander-lanes in (
       rw (visited .kept .1 .1 .0 ∙ set .kept .1 .0) (pre .0 .room),
       visited .kept .0 ∙ set .kept .0 ∙ c .before .before .before .before .before .before .before .before .before .before .before .before .before .before .before .before .before .before .before .before .before .before .before .before .absorb-lanes .kept .0 ∙ ap length (pre .1) ∙ length-replicate lanes start,
       visited .kept .1 .0 ∙ c .before .before .before .before .before .before .before .before .before .before .before .before .before .before .last-rows .kept .0 ∙ pre .2,

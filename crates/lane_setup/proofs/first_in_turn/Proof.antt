@@ -1,6 +1,6 @@
 -- `first_in_turn` meets its contract: the loop over the lanes. Assumes nothing.
 use mathlib.Core.Path.{_≡_, refl, sym, ap, _∙_}
-use Prim.Native.Nat.{ℕ, _-_, _+_, _*_, _≤_}
+use Prim.Native.Nat.{_-_, _*_, _≤_}
 use native.Mathlib.Omega.{arith}
 use native.Mathlib.Nat.{zero-mul}
 use lib.ListN.{length, length-set}
@@ -43,16 +43,20 @@ add-calls c =
     let v = c .before .before .before .before .before .before .before .before .loop in
     let a = c .before .before .before .before .before .before .before .before .before .before .args in
     let h = c .before .before .before .before .before .before .before .before .before .before .pre .0 in
-    omega (arith, v .inv .1, c .before .before .first-rows .ensures .0, row-before (v .i) (a .lanes .lanes) (3 * a .p .columns) (c .before .before .before .before .before .before .if1 .taken),
-    calls-most (a .lanes .lanes) 3 (a .p .columns) (few 0 h (omega arith) .lanes) (omega arith) (h .columns-most))
+    omega (
+      arith,
+      v .inv .1,
+      c .before .before .first-rows .ensures .0,
+      row-before (v .i) (a .lanes .lanes) (3 * a .p .columns) (c .before .before .before .before .before .before .if1 .taken),
+      calls-most (a .lanes .lanes) 3 (a .p .columns) (few 0 h (omega arith) .lanes) (omega arith) (h .columns-most),
+    )
 
 loop-again : tie.Need-loop-again Inv-loop μ-loop
 unfolding laneFirstRows
 loop-again c =
     let v = c .before .before .before .before .before .before .before .before .loop in
     let a = c .before .before .before .before .before .before .before .before .before .before .args in
-    let filled = c .before .before .first-rows in
-    (
+    let filled = c .before .before .first-rows in (
       omega (arith, c .before .before .before .before .before .before .if1 .taken),
       omega (arith, v .inv .1, filled .ensures .0, row-more (v .i) (3 * a .p .columns)),
       length-set (v .states) (v .i) (filled .last .0) ∙ v .inv .2,

@@ -11,9 +11,9 @@ use Rattle.settings.specs.Settings.{settings}
 use Rattle.setup_order.specs.SetupOrder.{order}
 use Rattle.setup_order.specs.declared.Order.{Order}
 use Rattle.setup_order.proofs.Windows.{sqrt-most}
-use Rattle.lanes.specs.Lanes.{Works, works}
+use Rattle.lanes.specs.Lanes.{works}
 use Rattle.lanes.specs.Meetings.{firstRow, rowsIn}
-use Rattle.lanes.specs.LaneSetup.{laneFirstRows, setupInTurn, setupLanes}
+use Rattle.lanes.specs.LaneSetup.{setupInTurn, setupLanes}
 use Rattle.lanes.proofs.InTurn.{few, calls-most, added, row-first, row-next, row-least, row-steps, rows-over}
 use Rattle.lane_setup.proofs.set_up_lanes.Statement.{statement}
 use Rattle.lane_setup.proofs.set_up_lanes.Tie as tie
@@ -31,10 +31,15 @@ loop-holds : tie.Need-loop-holds Inv-loop μ-loop
 unfolding order
 loop-holds c =
     let a = c .before .before .before .before .before .before .before .before .args in
-    let three : min 3 (a .lanes .rows) ≡ 3 = omega (arith, c .before .before .before .before .before .before .before .before .pre .0 .rows-least) in
-    (
-      omega arith, sym (row-first .0), λ lt. sym (row-first .1), c .first .ensures ∙ ap order (sym (ap (λ (n : ℕ). n - 3) three)),
-      c .before .before .before .before .first-in-turn .ensures .0 ∙ ap (λ (n : ℕ). a .lanes .lanes * (n * a .p .columns)) (sym three), refl, refl, loop-none _ _,
+    let three : min 3 (a .lanes .rows) ≡ 3 = omega (arith, c .before .before .before .before .before .before .before .before .pre .0 .rows-least) in (
+      omega arith,
+      sym (row-first .0),
+      λ lt. sym (row-first .1),
+      c .first .ensures ∙ ap order (sym (ap (λ (n : ℕ). n - 3) three)),
+      c .before .before .before .before .first-in-turn .ensures .0 ∙ ap (λ (n : ℕ). a .lanes .lanes * (n * a .p .columns)) (sym three),
+      refl,
+      refl,
+      loop-none _ _,
     )
 
 -- an interval that begins before the last row
@@ -68,9 +73,9 @@ setup-in-turn-requires c κs =
     let pre = c .before .before .before .before .before .before .before .before .before .before .before .before .before .before .pre in
     let lt = c .before .before .before .if1 .taken in
     let o = ordered _ _ _ (v .t) _ lt (v .inv .1) (v .inv .2 lt) (c .before .before .earlier .ensures) in
-    let here : min (v .first) (c .before .before .before .before .before .before .before .before .before .before .before .before .before .before .args .lanes .rows) ≡ v .first = omega (arith, lt) in
-    (
-      rw (v .inv .6 ∙ c .before .before .before .before .before .before .before .before .before .before .first-in-turn .kept .1 .0) (pre .0), v .inv .5 ∙ c .before .before .before .before .before .before .before .before .before .before .first-in-turn .kept .0 ∙ pre .1,
+    let here : min (v .first) (c .before .before .before .before .before .before .before .before .before .before .before .before .before .before .args .lanes .rows) ≡ v .first = omega (arith, lt) in (
+      rw (v .inv .6 ∙ c .before .before .before .before .before .before .before .before .before .before .first-in-turn .kept .1 .0) (pre .0),
+      v .inv .5 ∙ c .before .before .before .before .before .before .before .before .before .before .first-in-turn .kept .0 ∙ pre .1,
       omega (arith, v .inv .0, few 0 (pre .0) (omega arith) .rows),
       v .inv .3 ∙ ap (λ (k : ℕ). order (k - 3)) here,
       omega (arith, o),
@@ -118,22 +123,21 @@ loop-again c =
     let o = ordered _ _ _ (v .t) _ lt (v .inv .1) next-is at in
     let done = c .before .before .before .before .before .before .setup-in-turn in
     let turned : done .result .order ≡ order (min (v .next) n - 3) = done .ensures .0 ∙ ap order (reached _ _ _ (v .t) _ lt (v .inv .1) next-is at) in
-    let S = settings (a .p) in
-    (
+    let S = settings (a .p) in (
       omega (arith, v .inv .1, row-least (v .t), lt),
       next-is ∙ ap firstRow (sym (add-one (v .t))),
       λ less.
           let inner : min (v .next) n ≡ v .next = omega (arith, less) in
           ap₂ (λ (x y : ℕ). x + y / 2) next-is
-              (ap (λ (q : Order). q .sqrt) (turned ∙ ap (λ (k : ℕ). order (k - 3)) (inner ∙ next-is)))
+          (ap (λ (q : Order). q .sqrt) (turned ∙ ap (λ (k : ℕ). order (k - 3)) (inner ∙ next-is)))
           ∙ sym (row-next (v .t)) ∙ ap (λ (k : ℕ). firstRow (suc k)) (sym (add-one (v .t))),
       turned,
       added (a .lanes .lanes) (a .p .columns) (v .first) (v .next) n (v .calls) _ _ lt (o .3) (v .inv .4) at (done .ensures .1),
       done .kept .0 ∙ v .inv .5,
       done .kept .1 .0 ∙ v .inv .6,
       loop-more _ _ _ _ _ (v .inv .7)
-      (done .ensures .2
-      ∙ ap₂ (λ (k count : ℕ). setupInTurn S (a .lanes .lanes) n (v .t) k count (works (v .states) (v .m))) (ap (λ (k : ℕ). k - 3) (v .inv .1)) (counted _ _ _ (v .t) _ lt (v .inv .1) next-is at)),
+          (done .ensures .2
+          ∙ ap₂ (λ (k count : ℕ). setupInTurn S (a .lanes .lanes) n (v .t) k count (works (v .states) (v .m))) (ap (λ (k : ℕ). k - 3) (v .inv .1)) (counted _ _ _ (v .t) _ lt (v .inv .1) next-is at)),
     )
 
 returns : tie.Need-returns Inv-loop μ-loop
@@ -144,12 +148,11 @@ returns c =
     let n = a .lanes .rows in
     let S = settings (a .p) in
     let past : n ≤ v .first = omega (arith, c .if1 .left) in
-    let all : min (v .first) n ≡ n = omega arith in
-    (
+    let all : min (v .first) n ≡ n = omega arith in (
       v .inv .3 ∙ ap (λ (k : ℕ). order (k - 3)) all,
       v .inv .4 ∙ ap (λ (k : ℕ). a .lanes .lanes * (k * a .p .columns)) all ∙ sym (mul-assoc (a .lanes .lanes) n (a .p .columns)),
       v .inv .7 ∙ rows-over S (a .lanes .lanes) n (v .t) n _ (rw (← v .inv .1) past) (v .inv .0)
-      ∙ ap (loop (λ (i : ℕ). setupInTurn S (a .lanes .lanes) n i (firstRow i - 3) (rowsIn n i)) n) (c .before .before .before .before .before .before .before .first-in-turn .ensures .1),
+          ∙ ap (loop (λ (i : ℕ). setupInTurn S (a .lanes .lanes) n i (firstRow i - 3) (rowsIn n i)) n) (c .before .before .before .before .before .before .before .first-in-turn .ensures .1),
     )
 
 pub set-up-lanes-spec : {M : Type 1} → statement M

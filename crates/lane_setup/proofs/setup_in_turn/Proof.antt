@@ -1,6 +1,6 @@
 -- `setup_in_turn` meets its contract: the loop over the lanes, each of which ends with the same order. Assumes nothing.
 use mathlib.Core.Path.{_≡_, refl, sym, ap, _∙_}
-use Prim.Native.Nat.{ℕ, _-_, _+_, _*_, _%_, _≤_, _<_}
+use Prim.Native.Nat.{_-_, _+_, _*_, _%_, _≤_, _<_}
 use native.Mathlib.Omega.{arith}
 use native.Mathlib.Nat.{zero-mul, mod-lt}
 use lib.ListN.{length, length-set}
@@ -54,16 +54,20 @@ add-calls c =
     let a = c .before .before .before .before .before .before .before .before .before .before .before .before .before .before .args in
     let pre = c .before .before .before .before .before .before .before .before .before .before .before .before .before .before .pre in
     let f = few 0 (pre .0) (omega arith) in
-    omega (arith, v .inv .2, c .before .before .before .before .setup-rows .ensures .1, row-before (v .i) (a .lanes .lanes) (a .n * a .p .columns) (c .before .before .before .before .before .before .before .before .before .before .if1 .taken),
-    calls-most (a .lanes .lanes) (a .n) (a .p .columns) (f .lanes) (omega (arith, pre .4, f .rows)) (pre .0 .columns-most))
+    omega (
+      arith,
+      v .inv .2,
+      c .before .before .before .before .setup-rows .ensures .1,
+      row-before (v .i) (a .lanes .lanes) (a .n * a .p .columns) (c .before .before .before .before .before .before .before .before .before .before .if1 .taken),
+      calls-most (a .lanes .lanes) (a .n) (a .p .columns) (f .lanes) (omega (arith, pre .4, f .rows)) (pre .0 .columns-most),
+    )
 
 loop-again : tie.Need-loop-again Inv-loop μ-loop
 unfolding laneSetup
 loop-again c =
     let v = c .before .before .before .before .before .before .before .before .before .before .before .before .loop in
     let a = c .before .before .before .before .before .before .before .before .before .before .before .before .before .before .args in
-    let filled = c .before .before .before .before .setup-rows in
-    (
+    let filled = c .before .before .before .before .setup-rows in (
       omega (arith, c .before .before .before .before .before .before .before .before .before .before .if1 .taken),
       λ pos. filled .ensures .0,
       omega (arith, v .inv .2, filled .ensures .1, row-more (v .i) (a .n * a .p .columns)),

@@ -1,6 +1,6 @@
 -- `pick_rows` meets its contract: the words of the state are those of the output, and every row is one of a lane. Assumes nothing.
 use mathlib.Core.Path.{_≡_, _∙_}
-use Prim.Native.Nat.{ℕ, suc, _+_, _*_, _/_, _%_}
+use Prim.Native.Nat.{_*_, _/_, _%_}
 use native.Mathlib.Omega.{arith}
 use native.Mathlib.Numerals.{add-one}
 use denote.Ref.{now}
@@ -41,8 +41,7 @@ returns c =
     let row1 = picked-by S 1 (n / 2) s at1 (c .before .picked3 .ensures .0) in
     let j = picked-by S 2 (a .lanes .lanes) s at2 (lane .ensures .0) in
     let e0 = first .0 ∙ (λ i. halfRow n (a .i) (a .t) (row0 i)) in
-    let e1 = other .0 ∙ (λ i. halfRow n (j i) (add-one (a .t) i) (row1 i)) in
-    (
+    let e1 = other .0 ∙ (λ i. halfRow n (j i) (add-one (a .t) i) (row1 i)) in (
       λ i. laneRows (e0 i) (e1 i) (a .prev0),
       omega (arith, first .2, row-before (a .i) (a .lanes .lanes) n (start .pre .2)),
       omega (arith, other .2, row-before (lane .result) (a .lanes .lanes) n (lane .ensures .1)),

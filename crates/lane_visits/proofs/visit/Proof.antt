@@ -1,13 +1,13 @@
 -- `visit` meets its contract: the rows that are picked, then their columns. Assumes nothing.
-use mathlib.Core.Path.{_≡_, sym, ap, _∙_}
-use Prim.Native.Nat.{ℕ, _*_}
+use mathlib.Core.Path.{_≡_, ap, _∙_}
+use Prim.Native.Nat.{_*_}
 use native.Mathlib.Omega.{arith}
 use denote.Ref.{now}
 use Rattle.settings.specs.Settings.{settings}
 use Rattle.columns.specs.Columns.{work}
 use Rattle.columns.specs.declared.Rows.{Rows}
 use Rattle.columns.proofs.RowLaws.{within}
-use Rattle.lanes.specs.LaneVisits.{LaneWalk, laneWalk, pickedLaneRows, visitedRow, visitOf}
+use Rattle.lanes.specs.LaneVisits.{laneWalk, pickedLaneRows, visitedRow, visitOf}
 use Rattle.lane_visits.proofs.visit.Statement.{statement}
 use Rattle.lane_visits.proofs.visit.Tie as tie
 
@@ -29,12 +29,11 @@ returns c =
     let picked = c .before .before .before .before .before .before .pick-rows .ensures in
     let S = settings (a .p) in
     let w = work (now (a .s)) (now (a .m)) in
-    let visited = c .before .before .before .visit-row .ensures in
-    (
+    let visited = c .before .before .before .visit-row .ensures in (
       visited .0,
       picked .1,
       ap (λ (v : _). laneWalk v (c .before .before .before .before .before .before .pick-rows .result .row0 .0)) (visited .1)
-      ∙ ap (λ (r : Rows). laneWalk (visitedRow S r w) (r .row0 .0)) (picked .0),
+          ∙ ap (λ (r : Rows). laneWalk (visitedRow S r w) (r .row0 .0)) (picked .0),
     )
 
 pub visit-spec : {M : Type 1} → statement M

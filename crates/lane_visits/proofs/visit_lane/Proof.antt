@@ -1,10 +1,10 @@
 -- `visit_lane` meets its contract: the loop over the visits. Assumes nothing.
 use mathlib.Core.Path.{_≡_, refl, sym, _∙_}
-use Prim.Native.Nat.{ℕ, _-_, _*_, _≤_, _<_}
+use Prim.Native.Nat.{_-_, _*_, _≤_, _<_}
 use native.Mathlib.Omega.{arith}
 use native.Mathlib.Nat.{zero-mul}
 use lib.ListN.{length}
-use Rattle.lists.proofs.LoopLaws.{loop-none, loop-more, loop-end}
+use Rattle.lists.proofs.LoopLaws.{loop-none, loop-more}
 use Rattle.settings.specs.Settings.{settings}
 use Rattle.columns.specs.Columns.{work}
 use Rattle.columns.proofs.RowLaws.{row-more, row-before}
@@ -41,8 +41,7 @@ unfolding visitsOf
 loop-again c =
     let v = c .before .before .before .before .before .before .before .loop in
     let stepped = c .before .before .before .visit in
-    let a = c .before .before .before .before .before .before .before .before .before .args in
-    (
+    let a = c .before .before .before .before .before .before .before .before .before .args in (
       omega arith,
       omega (arith, stepped .ensures .0, v .inv .1, row-more (v .k) (a .p .columns)),
       stepped .kept .1 .0 ∙ v .inv .2,

@@ -1,17 +1,15 @@
 -- `visits_in_turn` meets its contract: the loop over the lanes. Assumes nothing.
 use mathlib.Core.Path.{_≡_, refl, sym, ap, _∙_}
-use Prim.Native.Nat.{ℕ, _-_, _*_, _≤_, _<_}
+use Prim.Native.Nat.{ℕ, _-_, _*_, _≤_}
 use native.Mathlib.Omega.{arith}
 use native.Mathlib.Nat.{zero-mul}
-use mathlib.Core.List.{List}
 use lib.ListN.{length, length-set}
-use denote.Ref.{now}
 use Rattle.lists.proofs.LoopLaws.{loop-none, loop-more, loop-end}
 use Rattle.lists.specs.Loop.{loop}
 use Rattle.settings.specs.Settings.{settings}
 use Rattle.columns.proofs.RowLaws.{row-more, row-before}
 use Rattle.lanes.specs.Lanes.{works}
-use Rattle.lanes.specs.LaneVisits.{LaneWalk, Lanes, lanes, put, step, visitsOf, visitsInTurn}
+use Rattle.lanes.specs.LaneVisits.{LaneWalk, lanes, put, step, visitsOf, visitsInTurn}
 use Rattle.lanes.specs.Room.{Below}
 use Rattle.lanes.proofs.InTurn.{below-set}
 use Rattle.lane_wandering.proofs.visits_in_turn.Statement.{statement}
@@ -47,8 +45,7 @@ loop-again : tie.Need-loop-again Inv-loop μ-loop
 loop-again c =
     let v = c .before .before .before .before .before .before .before .before .before .loop in
     let a = c .before .before .before .before .before .before .before .before .before .before .before .before .args in
-    let visited = c .before .before .before .visit-lane in
-    (
+    let visited = c .before .before .before .visit-lane in (
       omega (arith, c .before .before .before .before .before .before .before .if1 .taken),
       omega (arith, v .inv .1, visited .ensures .0, row-more (v .i) (a .count * a .p .columns)),
       length-set (v .states) (v .i) (visited .last .0) ∙ v .inv .2,

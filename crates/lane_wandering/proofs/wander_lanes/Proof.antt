@@ -25,7 +25,6 @@ Inv-loop states₀ prevs₀ m₀ shape sqrt p visits calls₀ first₀ next₀ t
 abbrev μ-loop : tie.MeasureT-loop
 μ-loop states₀ prevs₀ m₀ shape sqrt p visits calls₀ first₀ next₀ t₀ states prevs m calls first next t = visits - first
 
-
 mul-visits : tie.Need-mul-visits Inv-loop μ-loop
 mul-visits c = omega (arith, few (c .before .before .before .before .args .p .time) (c .before .before .before .before .pre .0) (c .before .before .before .before .pre .5) .visits)
 
@@ -59,9 +58,11 @@ visits-in-turn-requires c κs =
     let f = few (a .p .time) (pre .0) (pre .5) in
     let sqrt-pos : 1 ≤ a .sqrt = omega (arith, pre .4, sqrt-range (pre .0) .0) in
     let before : v .first < a .lanes .rows * a .p .time = c .before .before .before .before .loop-test .taken in
-    let some : c .before .before .before .earlier .result - v .first ≤ 4177920 = omega (arith, c .before .before .before .earlier .ensures, f .visits) in
-    (
-      rw (v .inv .6) (pre .0), v .inv .4 ∙ pre .1, v .inv .5 ∙ pre .2, v .inv .7,
+    let some : c .before .before .before .earlier .result - v .first ≤ 4177920 = omega (arith, c .before .before .before .earlier .ensures, f .visits) in (
+      rw (v .inv .6) (pre .0),
+      v .inv .4 ∙ pre .1,
+      v .inv .5 ∙ pre .2,
+      v .inv .7,
       omega (arith, v .inv .1, visit-least (a .sqrt) sqrt-pos (v .t), before, f .visits),
       omega (arith, calls-most (a .lanes .lanes) (c .before .before .before .earlier .result - v .first) (a .p .columns) (f .lanes) some (pre .0 .columns-most)),
     )
@@ -110,8 +111,7 @@ loop-again c =
     let later : v .first < v .next = omega (arith, v .inv .1, v .inv .2, visit-steps (a .sqrt) sqrt-pos (v .t)) in
     let visited = c .before .before .before .before .before .visits-in-turn in
     let count : c .before .before .before .before .before .before .before .before .before .earlier .result - v .first ≡ visitsIn S (a .lanes .rows) (v .t) =
-    ap₂ (λ (x y : ℕ). x - y) (c .before .before .before .before .before .before .before .before .before .earlier .ensures ∙ ap (λ (n : ℕ). min n visits) (v .inv .2 ∙ ap (λ (q : ℕ). firstVisit q (suc (v .t))) (pre .4))) (v .inv .1 ∙ ap (λ (q : ℕ). firstVisit q (v .t)) (pre .4)) in
-    (
+    ap₂ (λ (x y : ℕ). x - y) (c .before .before .before .before .before .before .before .before .before .earlier .ensures ∙ ap (λ (n : ℕ). min n visits) (v .inv .2 ∙ ap (λ (q : ℕ). firstVisit q (suc (v .t))) (pre .4))) (v .inv .1 ∙ ap (λ (q : ℕ). firstVisit q (v .t)) (pre .4)) in (
       omega (arith, v .inv .1, visit-least (a .sqrt) sqrt-pos (v .t), before),
       v .inv .2 ∙ ap (firstVisit (a .sqrt)) (sym (add-one (v .t))),
       ap (λ (n : ℕ). n + a .sqrt) (v .inv .2) ∙ sym (visit-next (a .sqrt) (v .t)) ∙ ap (λ (n : ℕ). firstVisit (a .sqrt) (suc n)) (sym (add-one (v .t))),
@@ -132,8 +132,7 @@ returns c =
     let visits = a .lanes .rows * a .p .time in
     let past : visits ≤ v .first = omega (arith, c .loop-test .left) in
     let all : min (v .first) visits ≡ visits = omega arith in
-    let beyond : visits ≤ firstVisit (sqrtAfter (a .lanes .rows)) (v .t) = rw (← pre .4, ← v .inv .1) past in
-    (
+    let beyond : visits ≤ firstVisit (sqrtAfter (a .lanes .rows)) (v .t) = rw (← pre .4, ← v .inv .1) past in (
       v .inv .3 ∙ ap (λ (n : ℕ). a .lanes .lanes * (n * a .p .columns)) all,
       v .inv .7,
       v .inv .8 ∙ visits-over (settings (a .p)) (a .lanes .lanes) (a .lanes .rows) (v .t) visits _ beyond (v .inv .0),

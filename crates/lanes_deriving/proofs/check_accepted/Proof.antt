@@ -1,8 +1,7 @@
 -- `check_accepted` meets its contract: the eight states that there is room for, of which the first are the lanes', and zeros in them at the end.
 -- Assumes nothing.
-use mathlib.Core.Path.{_≡_, sym, ap, _∙_}
+use mathlib.Core.Path.{sym, ap, _∙_}
 use native.Mathlib.Omega.{arith}
-use mathlib.Core.List.{List}
 use lib.ListN.{length}
 use denote.Ref.{now}
 use Rattle.lists.specs.Zip.{cleared}

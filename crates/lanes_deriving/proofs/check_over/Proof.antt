@@ -1,8 +1,7 @@
 -- `check_over` meets its contract: the run, then the comparison. Assumes nothing.
-use mathlib.Core.Path.{_≡_, sym, ap, ap₂, _∙_}
-use Prim.Native.Nat.{ℕ, _+_, _*_, _≤_}
+use mathlib.Core.Path.{ap, ap₂, _∙_}
+use Prim.Native.Nat.{_≤_}
 use native.Mathlib.Omega.{arith}
-use mathlib.Core.List.{List}
 use lib.ListN.{length, length-replicate}
 use denote.Ref.{now}
 use Rattle.mixer.specs.Mixers.{sumOf}
@@ -37,8 +36,7 @@ spent-requires c κs =
     let pre = c .before .before .before .before .before .before .before .before .before .before .before .before .before .before .before .before .before .before .before .pre in
     let l = lengths (input (now (a .password)) (now (a .salt)) (length (now (a .stored)))) in
     let calls = full-is l (a .lanes) (pre .key-least) (c .before .before .before .before .before .before .before .before .before .before .run-lanes .ensures .full) (c .before .before .before .compare-lanes .ensures .1) in
-    let rows : a .p .rows ≤ 16384 = omega (arith, pre .fits .shared, pre .fits .room .rows-most) in
-    (
+    let rows : a .p .rows ≤ 16384 = omega (arith, pre .fits .shared, pre .fits .room .rows-most) in (
       omega (arith, calls, full-most l (a .lanes) (pre .key-most) (pre .fits .password) (pre .fits .salt) (pre .fits .lanes-most)),
       omega (arith, c .before .before .before .before .before .before .before .before .before .before .run-lanes .ensures .reduced, reduced-most (a .p .rows) (a .p .columns) (a .p .time) rows (pre .fits .room .columns-most) (pre .fits .time)),
       pre .rounds-most,

@@ -1,13 +1,13 @@
 -- `cost_accepted` meets its contract: the counts of the definition. Assumes nothing.
 use mathlib.Core.Path.{_≡_, ap, ap₂, _∙_}
-use Prim.Native.Nat.{ℕ, _+_, _*_, _≤_}
+use Prim.Native.Nat.{ℕ, _+_, _*_}
 use native.Mathlib.Omega.{arith}
 use Rattle.settings.specs.Settings.{settings, usual}
 use Rattle.settings.specs.declared.Parameters.{Parameters}
 use Rattle.key.specs.Key.{pieces}
 use Rattle.refusals.proofs.Accepted.{cells-most}
 use Rattle.derivation.specs.Answers.{spentOn}
-use Rattle.lanes_derivation.specs.LanesCosts.{laneBlocks, lanesFullCost, lanesCosts}
+use Rattle.lanes_derivation.specs.LanesCosts.{laneBlocks, lanesCosts}
 use Rattle.lanes_deriving.proofs.LanesEnds.{costed, bounded, each-most, full-most, reduced-most}
 use Rattle.lanes_deriving.proofs.cost_accepted.Statement.{statement}
 use Rattle.lanes_deriving.proofs.cost_accepted.Tie as tie

@@ -1,8 +1,7 @@
 -- `derive_accepted` meets its contract: the eight states that there is room for, of which the first are the lanes', and zeros in them at the end.
 -- Assumes nothing.
-use mathlib.Core.Path.{_≡_, sym, ap, _∙_}
+use mathlib.Core.Path.{sym, ap, _∙_}
 use native.Mathlib.Omega.{arith}
-use mathlib.Core.List.{List}
 use lib.ListN.{length}
 use denote.Ref.{now}
 use Rattle.lists.specs.Zip.{cleared}
@@ -11,8 +10,6 @@ use Rattle.settings.specs.Settings.{settings}
 use Rattle.settings.specs.Sizes.{matrixWords}
 use Rattle.settings.specs.declared.Parameters.{Parameters}
 use Rattle.input.specs.Input.{input}
-use Rattle.key.specs.Key.{sameBytes}
-use Rattle.derivation.specs.Answers.{flag}
 use Rattle.derivation.proofs.Answering.{answered-yes}
 use Rattle.lanes_derivation.specs.LanesDerivation.{lanesKeyOf}
 use Rattle.lanes_deriving.proofs.LanesEnds.{lanes-few, begun, begun-length, all-eight, begins, costs-again, cost-yes}

@@ -1,15 +1,13 @@
 -- `derive_over` meets its contract: the run, then the key. Assumes nothing.
-use mathlib.Core.Path.{_≡_, sym, ap, ap₂, _∙_}
-use Prim.Native.Nat.{ℕ, _+_, _*_, _≤_}
+use mathlib.Core.Path.{ap, ap₂, _∙_}
+use Prim.Native.Nat.{_≤_}
 use native.Mathlib.Omega.{arith}
-use mathlib.Core.List.{List}
 use lib.ListN.{length, length-replicate}
 use denote.Ref.{now}
 use Rattle.mixer.specs.Mixers.{sumOf}
 use Rattle.profile.specs.Profile.{start}
 use Rattle.settings.specs.Settings.{settings}
 use Rattle.input.specs.Input.{input, lengths}
-use Rattle.key.specs.Key.{sameBytes}
 use Rattle.derivation.specs.Answers.{spentOn}
 use Rattle.lane_keys.specs.LaneKeys.{keysXored}
 use Rattle.lanes_derivation.specs.LanesDerivation.{lanesKeyOf}
@@ -37,8 +35,7 @@ spent-requires c κs =
     let pre = c .before .before .before .before .before .before .before .before .before .before .before .before .before .before .before .before .before .before .before .before .before .pre in
     let l = lengths (input (now (a .password)) (now (a .salt)) (length (now (a .key)))) in
     let calls = full-is l (a .lanes) (pre .key-least) (c .before .before .before .before .before .before .before .before .before .before .before .before .run-lanes .ensures .full) (c .before .before .before .before .squeeze-lanes .ensures .1) in
-    let rows : a .p .rows ≤ 16384 = omega (arith, pre .fits .shared, pre .fits .room .rows-most) in
-    (
+    let rows : a .p .rows ≤ 16384 = omega (arith, pre .fits .shared, pre .fits .room .rows-most) in (
       omega (arith, calls, full-most l (a .lanes) (pre .key-most) (pre .fits .password) (pre .fits .salt) (pre .fits .lanes-most)),
       omega (arith, c .before .before .before .before .before .before .before .before .before .before .before .before .run-lanes .ensures .reduced, reduced-most (a .p .rows) (a .p .columns) (a .p .time) rows (pre .fits .room .columns-most) (pre .fits .time)),
       pre .rounds-most,

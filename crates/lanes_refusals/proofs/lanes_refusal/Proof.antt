@@ -1,6 +1,6 @@
 -- `lanes_refusal` meets its contract: the checks of the cost question for a time that is refused where T is 0, then that of the lanes.
 -- Assumes nothing.
-use mathlib.Core.Path.{_≡_, ap, _∙_}
+use mathlib.Core.Path.{ap, _∙_}
 use mathlib.Core.Bool.{Bool, cond}
 use mathlib.Core.List.{List, [], _∷_, _++_}
 use Prim.Native.Nat.{ℕ}

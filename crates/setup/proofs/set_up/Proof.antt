@@ -35,8 +35,7 @@ returns c =
     let start = c .before .before .before .before .before .before .before .before .before .before .before .before .before .before .before in
     let p = start .args .p in
     let first = c .before .before .before .before .before .before .before .before .before .before .before .first-rows .ensures in
-    let rest = c .before .before .before .before .setup-rows .ensures in
-    (
+    let rest = c .before .before .before .before .setup-rows .ensures in (
       rest .0 ∙ ap order (zero-add _),
       ap₂ (λ (a b : ℕ). a + b) (first .0) (rest .1) ∙ sym (rows-split p (start .pre .0) .0),
       rest .2 ∙ ap (setupRows (settings p) 0 0 0 (p .rows - 3)) (first .1),

@@ -3,8 +3,7 @@
 use mathlib.Core.Path.{_≡_, refl, sym, ap, _∙_}
 use Prim.Native.Nat.{ℕ, _≤_, _-_, _+_, _*_}
 use native.Mathlib.Omega.{arith}
-use native.Mathlib.Nat.{zero-mul, add-zero, add-suc}
-use native.Mathlib.Numerals.{add-one}
+use native.Mathlib.Nat.{zero-mul, add-zero}
 use lib.ListN.{length}
 use Rattle.lists.specs.Loop.{loop}
 use Rattle.lists.proofs.LoopLaws.{loop-more}
@@ -70,8 +69,7 @@ loop-again c =
     let v = c .before .before .before .before .before .before .before .loop in
     let stepped = c .before .before .before .setup-step2 in
     let a = c .before .before .before .before .before .before .before .before .before .before .before .before .before .before .before .before .args in
-    let more : a .k + v .d + 1 ≡ a .k + (v .d + 1) = omega arith in
-    (
+    let more : a .k + v .d + 1 ≡ a .k + (v .d + 1) = omega arith in (
       omega arith,
       c .next2 .ensures ∙ ap nextOrder (v .inv .1) ∙ order-next _ ∙ ap order more,
       omega (arith, stepped .ensures .0, v .inv .2, row-more (v .d) (a .p .columns)),

@@ -18,11 +18,13 @@ use Rattle.setup_columns.proofs.write_setup.Tie as tie
 write-rotated-requires : tie.Need-write-rotated-requires
 write-rotated-requires c κs =
     let pre = c .before .before .before .before .before .before .before .pre in
-    let back = c .before .before .before .before .cell-start2 .ensures in
-    (omega arith, inr (
-      apart-cells (pre .3 .prev0) (pre .0) (pre .0) back (c .before .cell-start3 .ensures),
-      apart-cells (pre .3 .row0) (pre .0) (omega (arith, pre .1)) back (c .before .before .before .before .before .cell-start .ensures),
-    ))
+    let back = c .before .before .before .before .cell-start2 .ensures in (
+      omega arith,
+      inr (
+        apart-cells (pre .3 .prev0) (pre .0) (pre .0) back (c .before .cell-start3 .ensures),
+        apart-cells (pre .3 .row0) (pre .0) (omega (arith, pre .1)) back (c .before .before .before .before .before .cell-start .ensures),
+      ),
+    )
 
 returns : tie.Need-returns
 unfolding setupWritten
