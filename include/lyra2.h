@@ -27,10 +27,10 @@
  *               the key and mostly the password too, since the steps can be undone. The matrix of any other call needs
  *               no wiping: accepted, the call ends with zeros in its used words, and they can be lent on at once;
  *               refused, it leaves in them what they held.
- * Stack         Less than LYRA2_STACK_BYTES; lyra2_lanes_derive and lyra2_lanes_check, which keep a state for each lane,
- *               less than LYRA2_LANES_STACK_BYTES. A call clears its state there: no word of the key, the password or the
- *               matrix was found afterwards, and of the state only what a recorded derivation returns. This is measured
- *               and not promised. Registers are not cleared.
+ * Stack         Less than LYRA2_STACK_BYTES, and of lyra2_lanes_derive and lyra2_lanes_check, which keep a state for
+ *               each lane, less than LYRA2_LANES_STACK_BYTES. A call clears its state there: no word of the key, the
+ *               password or the matrix was found afterwards, and of the state only what a recorded derivation returns.
+ *               This is measured and not promised. Registers are not cleared.
  */
 #ifndef LYRA2_H
 #define LYRA2_H

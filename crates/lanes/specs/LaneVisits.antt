@@ -34,7 +34,7 @@ pickedLaneRows S p n t i s prev0 =
 unfoldable pub visitedRow : Settings → Rows → Work → Work
 visitedRow S r w = loop (laneColumn S r) (S .columns) w
 
--- a visit of lane i in interval t, and n of them
+-- a visit of lane i in interval t, and so many of them
 unfoldable pub visitOf : Settings → ℕ → ℕ → ℕ → ℕ → LaneWalk → LaneWalk
 visitOf S p n t i w =
     let r = pickedLaneRows S p n t i (w .done .state) (w .prev0) in

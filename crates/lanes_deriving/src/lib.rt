@@ -1,6 +1,6 @@
 // The operations with several lanes: the derivation, the check of a stored key, and the cost question.
 use checking::Checked;
-use clearing::clear_state;
+use clearing::clear_run;
 use costs::reduced_calls;
 use costs::refused;
 use costs::spent;
@@ -10,6 +10,7 @@ use lane_keys::squeeze_lanes;
 use lane_runs::run_lanes;
 use lanes_refusals::lanes_refusal;
 use lanes_refusals::lanes_room_refusal;
+use mixer::Mixer;
 use profile::Profile;
 use refusals::MAX_LANES;
 use settings::Lengths;
@@ -30,14 +31,17 @@ ghost use Rattle.lanes_deriving.specs.Over.{Begins, Derives, Compares};
 // The numbers in a lane's input.
 const NUMBERS: usize = 8;
 
-// Zeros in every lane's state; the answer is the number that is given.
+// Reduced calls of more than one round may leave words of a state on the stack, and the run of the lanes does: it is cleared as after those.
+const FULL_STACK: usize = 2;
+
+// Zeros in every lane's state and on the stack that a run used; the answer is the number that is given.
 fn clear_states(states: &mut [[u64; 16]], number: u64) -> u64
     ensures { λ r. ⌜ (r ≡ number) × ((i : ℕ) → i < length (now (states .entry)) → getD (now (states .exit)) i [] ≡ replicate stateWords 0) ⌝ }
 {
     let mut kept = number;
     let mut i = 0;
     while i < states.len() {
-        kept = clear_state(&mut states[i], kept);
+        kept = clear_run(&mut states[i], kept, FULL_STACK, Mixer::Plain);
         i += 1;
     }
     kept

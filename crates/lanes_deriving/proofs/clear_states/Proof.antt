@@ -19,7 +19,7 @@ abbrev μ-loop : tie.MeasureT-loop
 loop-again : tie.Need-loop-again Inv-loop μ-loop
 loop-again c =
     let v = c .before .before .before .loop in
-    let cleared = c .clear-state in (
+    let cleared = c .clear-run in (
       omega (arith, c .before .before .loop-test .taken),
       cleared .ensures .0 ∙ v .inv .1,
       length-set (v .states) (v .i) (cleared .last .0) ∙ v .inv .2,
