@@ -30,7 +30,8 @@
  * Stack         Less than LYRA2_STACK_BYTES, and of lyra2_lanes_derive and lyra2_lanes_check, which keep a state for
  *               each lane, less than LYRA2_LANES_STACK_BYTES. A call clears its state there: no word of the key, the
  *               password or the matrix was found afterwards, and of the state only what a recorded derivation returns.
- *               This is measured and not promised. Registers are not cleared.
+ *               Calls with lanes leave up to seven more words that depend on the password and are none of these. This is
+ *               measured and not promised. Registers are not cleared.
  */
 #ifndef LYRA2_H
 #define LYRA2_H

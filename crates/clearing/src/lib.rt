@@ -14,7 +14,7 @@ ghost use Rattle.settings.specs.Settings.{settings};
 ghost use Rattle.settings.specs.Sizes.{matrixWords};
 
 // The stack that a derivation uses below its first function is shorter than so many blocks.
-const STACK_BLOCKS: usize = 8;
+pub const STACK_BLOCKS: usize = 8;
 
 // Zeros in the state; the answer is the number that is given. A compiler leaves out stores that nothing reads: so a round reads the
 // zeros, which gives zeros again, and a word of the result is added to the number. The round belongs to no call and is not counted.
@@ -29,7 +29,7 @@ pub fn clear_state(s: &mut [u64; 16], number: u64) -> u64
 // Zeros on the stack below its caller, in so many blocks of seventeen words, which with the address to return to fill a multiple of sixteen
 // bytes. Each call answers the word of its block that the one below it names, so that the compiler has to keep every block and every call.
 // No promise can speak of the stack: what is left there is measured.
-fn clear_stack(blocks: usize, zero: u64) -> u64
+pub fn clear_stack(blocks: usize, zero: u64) -> u64
     requires { ⌜ zero ≡ 0 ⌝ }
     ensures { λ r. ⌜ r ≡ 0 ⌝ }
 {

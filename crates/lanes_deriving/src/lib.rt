@@ -1,6 +1,8 @@
 // The operations with several lanes: the derivation, the check of a stored key, and the cost question.
 use checking::Checked;
-use clearing::clear_run;
+use clearing::STACK_BLOCKS;
+use clearing::clear_stack;
+use clearing::clear_state;
 use costs::reduced_calls;
 use costs::refused;
 use costs::spent;
@@ -10,7 +12,6 @@ use lane_keys::squeeze_lanes;
 use lane_runs::run_lanes;
 use lanes_refusals::lanes_refusal;
 use lanes_refusals::lanes_room_refusal;
-use mixer::Mixer;
 use profile::Profile;
 use refusals::MAX_LANES;
 use settings::Lengths;
@@ -31,9 +32,6 @@ ghost use Rattle.lanes_deriving.specs.Over.{Begins, Derives, Compares};
 // The numbers in a lane's input.
 const NUMBERS: usize = 8;
 
-// Reduced calls of more than one round may leave words of a state on the stack, and the run of the lanes does: it is cleared as after those.
-const FULL_STACK: usize = 2;
-
 // Zeros in every lane's state and on the stack that a run used; the answer is the number that is given.
 fn clear_states(states: &mut [[u64; 16]], number: u64) -> u64
     ensures { λ r. ⌜ (r ≡ number) × ((i : ℕ) → i < length (now (states .entry)) → getD (now (states .exit)) i [] ≡ replicate stateWords 0) ⌝ }
@@ -41,10 +39,10 @@ fn clear_states(states: &mut [[u64; 16]], number: u64) -> u64
     let mut kept = number;
     let mut i = 0;
     while i < states.len() {
-        kept = clear_run(&mut states[i], kept, FULL_STACK, Mixer::Plain);
+        kept = clear_state(&mut states[i], kept);
         i += 1;
     }
-    kept
+    kept + clear_stack(STACK_BLOCKS, kept - number)
 }
 
 // The run and the key, over the lanes' states and rows.
