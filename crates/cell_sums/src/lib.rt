@@ -7,7 +7,7 @@ ghost use Rattle.mixer.specs.Word.{plainSum};
 ghost use Rattle.profile.specs.Profile.{cellWords};
 ghost use Rattle.cell_sums.specs.CellSum.{cellSum};
 
-pub fn sum3(a: u64, b: u64, c: u64) -> u64
+fn sum3(a: u64, b: u64, c: u64) -> u64
     ensures { λ r. ⌜ r ≡ plainSum (plainSum a b) c ⌝ }
 {
     std::num::wrapping_add_u64(std::num::wrapping_add_u64(a, b), c)
@@ -24,7 +24,7 @@ pub fn xor_sum3(s: &mut [u64; 16], a: &[u64], b: &[u64], c: &[u64])
     ensures { λ _. ⌜ now (s .exit) ≡ xorInto (now (s .entry)) (cellSum (cellSum (now (a .entry)) (now (b .entry))) (now (c .entry))) ⌝ }
 {
     let mut j = 0;
-    while j < Profile::CELL_WORDS {
+    while j < a.len() {
         s[j] = s[j] ^ sum3(a[j], b[j], c[j]);
         j += 1;
     }

@@ -5,10 +5,9 @@ use native.Mathlib.Omega.{arith}
 use mathlib.Core.List.{List}
 use lib.Bits.{bitXor}
 use denote.Ref.{now}
-use Rattle.lists.specs.Zip.{zipAt, xorInto}
+use Rattle.lists.specs.Zip.{zipAt}
 use Rattle.mixer.specs.Mixers.{sumOf}
 use Rattle.cell_sums.specs.CellSum.{cellSum}
-use Rattle.permutation.specs.Round.{rounds}
 use Rattle.sponge.specs.Sponge.{absorb, rand}
 use Rattle.settings.specs.Settings.{settings}
 use Rattle.places.specs.Places.{place}
@@ -21,19 +20,18 @@ use Rattle.lane_columns.proofs.lane_column.Statement.{statement}
 use Rattle.lane_columns.proofs.lane_column.Tie as tie
 
 returns : tie.Need-returns
-unfolding laneColumn laneCells picks absorb
+unfolding laneColumn laneCells picks
 returns c r e =
-    let a = c .before .before .before .before .before .before .before .before .before .before .before .before .before .before .before .before .before .before .before .args in
+    let a = c .before .before .before .before .before .before .before .before .before .before .before .before .before .before .before .before .before .args in
     let C = a .p .columns in
     let m = now (a .m) in
     let from : ℕ → List ℕ = λ n. cellFrom n m in
-    let picked = c .before .before .before .before .before .before .before .before .before .before .before .before .before .before .before .before .pick-columns in
+    let picked = c .before .before .before .before .before .before .before .before .before .before .before .before .before .before .pick-columns in
     let col0 : picked .result .col1 .0 ≡ pickedBy (settings (a .p)) 3 C (now (a .s)) = ap (λ (q : Picks). q .col1 .0) (picked .ensures .is) in
-    let row0 = c .before .before .before .before .before .before .before .before .before .before .before .before .before .cell .ensures .0 ∙ ap from (row0-place C r e (a .col .0)) in
-    let prev0 = c .before .before .before .before .before .before .before .before .before .before .before .before .cell2 .ensures .0 ∙ ap from (prev0-place C r e _ ∙ ap (place C (r .prev0 .0)) col0) in
-    let row1 = c .before .before .before .before .before .before .before .before .before .before .before .cell3 .ensures .0 ∙ ap from (row1-place C r e (a .col .0)) in
-    let summed = c .before .before .before .before .before .before .before .before .before .before .xor-cells .ensures ∙ (λ i. xorInto (now (a .s)) (cellSum (cellSum (row0 i) (prev0 i)) (row1 i))) in
-    let state = c .before .before .before .before .before .before .before .before .reduced-call .ensures ∙ ap (rounds (sumOf (a .p .mixer)) (a .p .rounds)) summed in
+    let row0 = c .before .before .before .before .before .before .before .before .before .before .before .cell .ensures .0 ∙ ap from (row0-place C r e (a .col .0)) in
+    let prev0 = c .before .before .before .before .before .before .before .before .before .before .cell2 .ensures .0 ∙ ap from (prev0-place C r e _ ∙ ap (place C (r .prev0 .0)) col0) in
+    let row1 = c .before .before .before .before .before .before .before .before .before .cell3 .ensures .0 ∙ ap from (row1-place C r e (a .col .0)) in
+    let state = c .before .before .before .before .before .before .before .before .duplex-sum3 .ensures ∙ (λ i. absorb (sumOf (a .p .mixer)) (a .p .rounds) (cellSum (cellSum (row0 i) (prev0 i)) (row1 i)) (now (a .s))) in
     let at = c .before .before .before .before .before .before .before .cell-start .ensures ∙ row0-place C r e (a .col .0) in
     let out = c .before .before .before .before .before .output .ensures ∙ ap rand state in
     let written = c .before .before .xor-cell .ensures ∙ (λ i. zipAt bitXor (at i) m (out i)) in
@@ -42,4 +40,4 @@ returns c r e =
 pub lane-column-spec : {M : Type 1} → statement M
 lane-column-spec =
     tie.close
-    (tie.spec (omega arith) (omega arith) (omega arith) (omega arith) (omega arith) (omega arith) (omega arith) (omega arith) (omega arith) (omega arith) (omega arith) returns)
+    (tie.spec (omega arith) (omega arith) (omega arith) (omega arith) (omega arith) (omega arith) (omega arith) (omega arith) (omega arith) (omega arith) returns)
