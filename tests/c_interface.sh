@@ -886,15 +886,16 @@ done <<'END'
 952 book_check: the password from byte 0 on is left on the stack
 953 book_check: 1 words on the stack depend on the key
 1450 lanes_derive: the key from byte 0 on is left on the stack
-1451 lanes_derive: 8 words on the stack depend on the password
+1451 lanes_derive: 1 words on the stack depend on the password
 1452 lanes_derive: the password from byte 0 on is left on the stack
 1453 lanes_derive: the password from byte 0 on is left on the stack
 1454 lanes_derive: the lanes' state after the visits from byte 120 on is left on the stack
 1455 lanes_derive: the lanes' state after the keys from byte 128 on is left on the stack
 1456 lanes_derive: the end matrix from byte 376 on is left on the stack
 1457 lanes_check: the key from byte 0 on is left on the stack
-1458 lanes_check: 8 words on the stack depend on the password
+1458 lanes_check: 1 words on the stack depend on the password
 1459 lanes_check: the password from byte 0 on is left on the stack
 1460 lanes_check: the lanes' state after the visits from byte 0 on is left on the stack
+1461 lanes_check: 1 words on the stack depend on the password
 END
 echo "C interface: $(sed 's/^vectors: //' "$work/ran"); $headers wrong headers, $wrong wrong lines and $found faulty libraries were found"

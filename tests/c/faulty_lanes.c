@@ -79,6 +79,7 @@ enum {
     CHECK_LEAVES_A_BYTE,
     CHECK_LEAVES_THE_PASSWORD,
     CHECK_LEAVES_THE_FIRST_STATE,
+    CHECK_LEAVES_A_ROW,
 };
 
 #define INPUT_PARAMETERS                                                                                           \
@@ -200,6 +201,8 @@ static void leave_secrets(const struct lane_sizes *n, const uint8_t *password, c
         secret = end.states[last][LYRA2_STATE_WORDS - 1];
     if (FAULT == CHECK_LEAVES_THE_FIRST_STATE)
         secret = end.states[0][0];
+    if (FAULT == CHECK_LEAVES_A_ROW)
+        secret = end.states[0][0] % n->rows;
     if (has(DERIVE_LEAVES_THE_LAST_LANES_KEY, last > 0))
         secret = end.squeezed[last][0];
     if (FAULT == DERIVE_LEAVES_THE_MATRIX)
@@ -325,7 +328,7 @@ static void spoil_check(const struct lane_sizes *n, uint32_t answer, const uint8
         leave(stored + n->key - 1, 1);
     if (has(CHECK_LEAVES_THE_PASSWORD, accepted))
         leave(password, n->password);
-    if (has(CHECK_LEAVES_THE_FIRST_STATE, accepted))
+    if (has(CHECK_LEAVES_THE_FIRST_STATE, accepted) || has(CHECK_LEAVES_A_ROW, accepted))
         leave_secrets(n, password, salt);
 }
 

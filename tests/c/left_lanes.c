@@ -1,8 +1,8 @@
 /*
  * What the calls with several lanes leave on the stack that they used. It is searched, at every byte, for eight bytes of
  * the key, of the password, of the end matrix and of each lane's state, after the visits and after its key. Then two
- * calls that differ in the password alone are compared: what differs on their stacks was made from it. That may be a
- * lane, a row, a column or a place in the matrix, as the visits pick them, and in seven words what a permutation spills.
+ * calls that differ in the password alone are compared: their stacks must not differ at all, not even in a row or a
+ * column that the visits picked.
  */
 #include "lane_model.h"
 #include "lent.h"
@@ -11,9 +11,6 @@
 #include <stdio.h>
 #include <stdlib.h>
 #include <string.h>
-
-/* The words that a permutation of the key's bytes spills and nothing clears yet; none is one of the searched ones. */
-enum { MOST_WORDS = 7 };
 
 enum { MOST_ROWS = 48, MOST_COLUMNS = 5, WINDOW = 8, STATES_BYTES = LYRA2_LANES_MAX * LYRA2_STATE_WORDS * 8 };
 #define MOST_MATRIX LYRA2_MATRIX_WORDS(MOST_ROWS, MOST_COLUMNS)
@@ -33,7 +30,7 @@ static uint64_t matrix[MOST_MATRIX], counts[LYRA2_COUNTS];
 static struct lane_sizes n;
 static uint32_t same, answer;
 
-static size_t searched, most_bytes, most_words, pairs;
+static size_t searched, pairs;
 
 static void derive(void)
 {
@@ -87,18 +84,12 @@ static void require_no_secret(const struct side *side, const char *name)
     require_absent(side, name, "lanes' state after the keys", side->end.squeezed, states, 8);
 }
 
-/* The words in which the stacks differ by more than picks; `most_bytes` keeps the bytes in which they do. */
+/* The words in which the stacks differ. */
 static size_t compare(const struct side *one, const struct side *other)
 {
-    size_t bytes = 0, words = 0;
-    for (size_t i = 0; i < MARKED_WORDS; i++) {
-        uint64_t difference = one->stack[i] ^ other->stack[i];
-        words += difference != 0 && !(one->stack[i] < n.matrix && other->stack[i] < n.matrix);
-        for (; difference != 0; difference >>= 8)
-            bytes += (difference & 0xff) != 0;
-    }
-    if (bytes > most_bytes)
-        most_bytes = bytes;
+    size_t words = 0;
+    for (size_t i = 0; i < MARKED_WORDS; i++)
+        words += one->stack[i] != other->stack[i];
     return words;
 }
 
@@ -109,10 +100,8 @@ static void require_pair(struct side sides[2], const struct operation *operation
         require_no_secret(&sides[i], operation->name);
     }
     size_t words = compare(&sides[0], &sides[1]);
-    if (words > MOST_WORDS)
+    if (words > 0)
         fail("%s: %zu words on the stack depend on the password", operation->name, words);
-    if (words > most_words)
-        most_words = words;
     pairs++;
 }
 
@@ -151,7 +140,6 @@ int main(void)
             require_shape(lanes, LYRA2_LANE_ROWS_MIN * lanes, 1 + i % 3, 1 + i % 2, keys[i], passwords[i % 4]);
         require_shape(lanes, MOST_ROWS / (2 * lanes) * (2 * lanes), MOST_COLUMNS, 2, 64, 20);
     }
-    printf("left of lanes: none of %zu words; in %zu pairs of calls at most %zu bytes differ, in %zu words that are no picks\n",
-           searched, pairs, most_bytes, most_words);
+    printf("left of lanes: none of %zu words; the stacks of %zu pairs of calls do not differ\n", searched, pairs);
     return 0;
 }

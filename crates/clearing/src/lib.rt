@@ -14,7 +14,7 @@ ghost use Rattle.settings.specs.Settings.{settings};
 ghost use Rattle.settings.specs.Sizes.{matrixWords};
 
 // The stack that a derivation uses below its first function is shorter than so many blocks.
-pub const STACK_BLOCKS: usize = 8;
+const STACK_BLOCKS: usize = 8;
 
 // Zeros in the state; the answer is the number that is given. A compiler leaves out stores that nothing reads: so a round reads the
 // zeros, which gives zeros again, and a word of the result is added to the number. The round belongs to no call and is not counted.

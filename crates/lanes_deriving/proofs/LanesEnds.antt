@@ -9,6 +9,7 @@ use Rattle.settings.specs.Settings.{Settings, settings, usual}
 use Rattle.settings.specs.declared.Parameters.{Parameters}
 use Rattle.settings.specs.declared.StoredParameters.{StoredParameters}
 use Rattle.settings.specs.declared.Lengths.{Lengths}
+use Rattle.input.specs.Input.{Input}
 use Rattle.key.specs.Key.{pieces, callsBetween}
 use Rattle.key.proofs.KeyLaws.{pieces-calls}
 use Rattle.refusals.specs.Checks.{Accepted, first, lanesCostChecks, lanesChecks}
@@ -18,6 +19,8 @@ use Rattle.derivation.specs.Cost.{reducedCost}
 use Rattle.derivation.specs.Answers.{spentOn, noCosts}
 use Rattle.derivation.specs.declared.Costs.{Costs}
 use Rattle.lanes_derivation.specs.LanesCosts.{laneBlocks, lanesFullCost, lanesCosts, lanesAnswer}
+use Rattle.lane_keys.proofs.LaneBytes.{length-keys}
+use Rattle.lanes_derivation.specs.LanesDerivation.{lanesKeyOf}
 use Rattle.lanes_derivation.proofs.LanesCounted.{blocks-most}
 use Rattle.lanes_derivation.proofs.Evenly.{evenly}
 use Rattle.lane_runs.specs.LaneRuns.{Fits}
@@ -145,14 +148,17 @@ begun-length n a le = ap length (first-of-many n 8 a le) ∙ length-replicate n 
 pub all-eight : {A : Type 0} (n : ℕ) (xs : List A) (a : A) → length xs ≡ n → n ≤ 8 → 8 ≡ length (xs ++ drop n (replicate 8 a))
 all-eight n xs a e le = omega (arith, length-append xs (drop n (replicate 8 a)), length-drop n (replicate 8 a), length-replicate 8 a)
 
--- costs whose full calls went through the clearing
-pub costs-again : (c : Costs) (kept : ℕ) (S : Settings) (full reduced : ℕ) → c ≡ spentOn S full reduced → kept ≡ c .full
-    → record { refusal = 0; full = kept; reduced = c .reduced; rounds = c .rounds } ≡ spentOn S full reduced
+-- costs whose number of the refusal, which is 0, went through the clearing
+pub costs-again : (c : Costs) {kept : ℕ} (S : Settings) (full reduced : ℕ) → c ≡ spentOn S full reduced → kept ≡ 0
+    → record { refusal = kept; full = c .full; reduced = c .reduced; rounds = c .rounds } ≡ spentOn S full reduced
 unfolding spentOn
-costs-again c kept S full reduced e f =
-    λ i. record { refusal = 0; full = (f ∙ ap (λ (x : Costs). x .full) e) i; reduced = e i .reduced; rounds = e i .rounds }
+costs-again c S full reduced e none = λ i. record { refusal = none i; full = e i .full; reduced = e i .reduced; rounds = e i .rounds }
 
--- what a derivation and a check over the lanes are asked with
+pub no-refusal : {c : Costs} (S : Settings) (full reduced : ℕ) → c ≡ spentOn S full reduced → c .refusal ≡ 0
+unfolding spentOn
+no-refusal S full reduced e = ap (λ (c : Costs). c .refusal) e
+
+-- what a run of the lanes is asked with
 pub begins : (l : Lengths) (q : StoredParameters) (lanes words : ℕ) {P : Parameters} {states : List (List ℕ)} {prevs : List ℕ} → first (lanesChecks l q lanes words) ≡ 0 → P ≡ usual q
     → states ≡ replicate lanes start → length prevs ≡ lanes → Begins l P lanes words states prevs
 begins l q lanes words none usually states prevs =
@@ -161,3 +167,7 @@ begins l q lanes words none usually states prevs =
 
 pub lanes-few : (l : Lengths) (q : StoredParameters) (lanes words : ℕ) → first (lanesChecks l q lanes words) ≡ 0 → lanes ≤ 8
 lanes-few l q lanes words none = bounded l q lanes (roomy l q lanes words none .0) .lanes-most
+
+pub length-lanes-key : (S : Settings) (lanes : ℕ) (x : Input) (matrix : List ℕ) → length (lanesKeyOf S lanes x matrix) ≡ x .keyLength
+unfolding lanesKeyOf
+length-lanes-key S lanes x matrix = length-keys _ _ _ lanes

@@ -1,10 +1,9 @@
--- A derivation and a check over the lanes' states and rows, once no check has refused.
+-- A call that no check refuses, which takes a key of the lanes.
 use mathlib.Core.Path.{_≡_}
-use mathlib.Core.Bool.{Bool}
 use Prim.Native.Nat.{ℕ, _≤_}
 use mathlib.Core.List.{List}
 use lib.ListN.{length, replicate}
-use Rattle.lists.specs.Zip.{cleared}
+use Rattle.lists.specs.Zip.{putInto, cleared}
 use Rattle.profile.specs.Profile.{start}
 use Rattle.settings.specs.Settings.{settings}
 use Rattle.settings.specs.Sizes.{matrixWords}
@@ -14,7 +13,7 @@ use Rattle.input.specs.Input.{Input, lengths}
 use Rattle.key.specs.Key.{sameBytes}
 use Rattle.derivation.specs.Cost.{reducedCost}
 use Rattle.derivation.specs.Answers.{spentOn}
-use Rattle.derivation.specs.declared.Costs.{Costs}
+use Rattle.checking.specs.declared.Checked.{Checked}
 use Rattle.lanes_derivation.specs.LanesCosts.{lanesFullCost}
 use Rattle.lanes_derivation.specs.LanesDerivation.{lanesKeyOf}
 use Rattle.lane_runs.specs.LaneRuns.{Fits}
@@ -28,12 +27,9 @@ pub record Begins (l : Lengths) (p : Parameters) (lanes words : ℕ) (states : L
   pub states-are : states ≡ replicate lanes start
   pub as-many : length prevs ≡ lanes
 
-pub record Derives (p : Parameters) (lanes : ℕ) (x : Input) (matrix key′ matrix′ : List ℕ) (r : Costs) : Type 0 where
-  pub answer : r ≡ spentOn (settings p) (lanesFullCost lanes (lengths x)) (reducedCost (settings p))
-  pub key-is : key′ ≡ lanesKeyOf (settings p) lanes x matrix
-  pub matrix-is : matrix′ ≡ cleared (matrixWords (settings p)) matrix
-
-pub record Compares (p : Parameters) (lanes : ℕ) (x : Input) (stored matrix matrix′ : List ℕ) (r : Costs) (same : Bool) : Type 0 where
-  pub answer : r ≡ spentOn (settings p) (lanesFullCost lanes (lengths x)) (reducedCost (settings p))
-  pub same-is : same ≡ sameBytes stored (lanesKeyOf (settings p) lanes x matrix)
+-- a key of as many bytes as the input says: in the lent key, and compared with a stored one that is as long
+pub record Takes (p : Parameters) (lanes : ℕ) (x : Input) (key stored matrix key′ matrix′ : List ℕ) (r : Checked) : Type 0 where
+  pub answer : r .costs ≡ spentOn (settings p) (lanesFullCost lanes (lengths x)) (reducedCost (settings p))
+  pub key-is : key′ ≡ putInto key (lanesKeyOf (settings p) lanes x matrix)
+  pub same-is : length stored ≡ x .keyLength → r .same ≡ sameBytes stored (lanesKeyOf (settings p) lanes x matrix)
   pub matrix-is : matrix′ ≡ cleared (matrixWords (settings p)) matrix

@@ -1,14 +1,12 @@
 // The operations with several lanes: the derivation, the check of a stored key, and the cost question.
 use checking::Checked;
-use clearing::STACK_BLOCKS;
 use clearing::clear_stack;
 use clearing::clear_state;
 use costs::reduced_calls;
 use costs::refused;
 use costs::spent;
 use derivation::Costs;
-use lane_keys::compare_lanes;
-use lane_keys::squeeze_lanes;
+use lane_keys::take_key;
 use lane_runs::run_lanes;
 use lanes_refusals::lanes_refusal;
 use lanes_refusals::lanes_room_refusal;
@@ -22,17 +20,21 @@ ghost use Prim.Native.Nat.{ℕ, _<_};
 ghost use mathlib.Core.List.{[]};
 ghost use lib.ListN.{length, getD, replicate};
 ghost use Rattle.profile.specs.Profile.{stateWords};
+ghost use Rattle.settings.specs.Settings.{usual};
 ghost use Rattle.input.specs.Input.{input, lengths};
 ghost use Rattle.refusals.specs.Checks.{first, lanesCostChecks};
 ghost use Rattle.derivation.specs.Answers.{flag};
 ghost use Rattle.lanes_derivation.specs.LanesCosts.{lanesCosts, lanesAnswer};
 ghost use Rattle.lanes_derivation.specs.LanesContracts.{lanesNumber, LanesDerived, LanesCompared};
-ghost use Rattle.lanes_deriving.specs.Over.{Begins, Derives, Compares};
+ghost use Rattle.lanes_deriving.specs.Over.{Begins, Takes};
 
 // The numbers in a lane's input.
 const NUMBERS: usize = 8;
 
-// Zeros in every lane's state and on the stack that a run used; the answer is the number that is given.
+// The stack that `take_accepted` and what it calls use is shorter than so many blocks.
+const STACK_BLOCKS: usize = 16;
+
+// Zeros in every lane's state; the answer is the number that is given.
 fn clear_states(states: &mut [[u64; 16]], number: u64) -> u64
     ensures { λ r. ⌜ (r ≡ number) × ((i : ℕ) → i < length (now (states .entry)) → getD (now (states .exit)) i [] ≡ replicate stateWords 0) ⌝ }
 {
@@ -42,57 +44,87 @@ fn clear_states(states: &mut [[u64; 16]], number: u64) -> u64
         kept = clear_state(&mut states[i], kept);
         i += 1;
     }
-    kept + clear_stack(STACK_BLOCKS, kept - number)
+    kept
 }
 
 // The run and the key, over the lanes' states and rows.
-fn derive_over(
+fn take_over(
     states: &mut [[u64; 16]],
     prevs: &mut [usize],
     password: &[u8],
     salt: &[u8],
     p: Parameters,
     lanes: usize,
+    bytes: usize,
     key: &mut [u8],
+    stored: &[u8],
     matrix: &mut [u64],
-) -> Costs
-    requires { ⌜ Begins (lengths (input (now password) (now salt) (length (now key)))) p lanes (length (now matrix)) (now states) (now prevs) ⌝ }
-    ensures { λ r. ⌜ Derives p lanes (input (now (password .entry)) (now (salt .entry)) (length (now (key .entry)))) (now (matrix .entry)) (now (key .exit)) (now (matrix .exit)) r ⌝ }
+) -> Checked
+    requires { ⌜ Begins (lengths (input (now password) (now salt) bytes)) p lanes (length (now matrix)) (now states) (now prevs) ⌝ }
+    ensures { λ r. ⌜ Takes p lanes (input (now (password .entry)) (now (salt .entry)) bytes) (now (key .entry)) (now (stored .entry)) (now (matrix .entry)) (now (key .exit)) (now (matrix .exit)) r ⌝ }
 {
     let mixer = p.mixer;
-    let ran = run_lanes(states, prevs, password, salt, key.len(), p, lanes, matrix);
-    let between = squeeze_lanes(states, lanes, key, mixer);
-    spent(ran.full + between, ran.reduced, p)
+    let ran = run_lanes(states, prevs, password, salt, bytes, p, lanes, matrix);
+    let c = take_key(states, lanes, bytes, key, stored, mixer);
+    let costs = spent(ran.full + c.calls, ran.reduced, p);
+    Checked {
+        costs,
+        same: c.same,
+    }
 }
 
-// The derivation of a call that no check refuses. The full calls go through the clearing, which is so not left out.
-fn derive_accepted(
+// A call that no check refuses: the derivation of a key of so many bytes, which the lent key takes and which a stored one is compared with.
+// Derivation and check both call for it, so that it stays a function, whose part of the stack they clear when it has ended: what the compiler
+// keeps of the states lies there. The number of the refusal goes through the clearing of the states, which is so not left out.
+fn take_accepted(
     password: &[u8],
     salt: &[u8],
     q: StoredParameters,
     lanes: usize,
+    bytes: usize,
     key: &mut [u8],
+    stored: &[u8],
     matrix: &mut [u64],
-) -> Costs
-    requires { ⌜ lanesNumber q lanes (input (now password) (now salt) (length (now key))) (now matrix) ≡ 0 ⌝ }
-    ensures { λ r. ⌜ LanesDerived q lanes (input (now (password .entry)) (now (salt .entry)) (length (now (key .entry)))) (now (key .entry)) (now (matrix .entry)) (now (key .exit)) (now (matrix .exit)) r ⌝ }
+) -> Checked
+    requires { ⌜ lanesNumber q lanes (input (now password) (now salt) bytes) (now matrix) ≡ 0 ⌝ }
+    ensures { λ r. ⌜ Takes (usual q) lanes (input (now (password .entry)) (now (salt .entry)) bytes) (now (key .entry)) (now (stored .entry)) (now (matrix .entry)) (now (key .exit)) (now (matrix .exit)) r ⌝ }
 {
     let p = Parameters::usual(q);
     let mut states = [Profile::start(); MAX_LANES];
     let mut prevs = [0; MAX_LANES];
-    let costs = derive_over(
+    let done = take_over(
         &mut states[..lanes],
         &mut prevs[..lanes],
         password,
         salt,
         p,
         lanes,
+        bytes,
         key,
+        stored,
         matrix,
     );
+    let spent = done.costs;
+    let costs = Costs {
+        refusal: clear_states(&mut states, 0) as u32,
+        full: spent.full,
+        reduced: spent.reduced,
+        rounds: spent.rounds,
+    };
+    Checked {
+        costs,
+        same: done.same,
+    }
+}
+
+// The costs as they are, once the stack below is cleared.
+fn clear_below(costs: Costs) -> Costs
+    requires { ⌜ costs .refusal ≡ 0 ⌝ }
+    ensures { λ r. ⌜ r ≡ costs ⌝ }
+{
     Costs {
-        refusal: 0,
-        full: clear_states(&mut states, costs.full),
+        refusal: clear_stack(STACK_BLOCKS, costs.refusal as u64) as u32,
+        full: costs.full,
         reduced: costs.reduced,
         rounds: costs.rounds,
     }
@@ -118,78 +150,9 @@ pub fn derive_lanes(
     if number != 0 {
         return refused(number);
     }
-    derive_accepted(password, salt, q, lanes, key, matrix)
-}
-
-// The run and the comparison, over the lanes' states and rows.
-fn check_over(
-    states: &mut [[u64; 16]],
-    prevs: &mut [usize],
-    password: &[u8],
-    salt: &[u8],
-    p: Parameters,
-    lanes: usize,
-    stored: &[u8],
-    matrix: &mut [u64],
-) -> Checked
-    requires { ⌜ Begins (lengths (input (now password) (now salt) (length (now stored)))) p lanes (length (now matrix)) (now states) (now prevs) ⌝ }
-    ensures { λ r. ⌜ Compares p lanes (input (now (password .entry)) (now (salt .entry)) (length (now (stored .entry)))) (now (stored .entry)) (now (matrix .entry)) (now (matrix .exit)) (r .costs) (r .same) ⌝ }
-{
-    let mixer = p.mixer;
-    let ran = run_lanes(
-        states,
-        prevs,
-        password,
-        salt,
-        stored.len(),
-        p,
-        lanes,
-        matrix,
-    );
-    let c = compare_lanes(states, lanes, stored, mixer);
-    let costs = spent(ran.full + c.calls, ran.reduced, p);
-    Checked {
-        costs,
-        same: c.same,
-    }
-}
-
-// The check of a call that no check refuses.
-fn check_accepted(
-    password: &[u8],
-    salt: &[u8],
-    q: StoredParameters,
-    lanes: usize,
-    stored: &[u8],
-    matrix: &mut [u64],
-) -> Checked
-    requires { ⌜ lanesNumber q lanes (input (now password) (now salt) (length (now stored))) (now matrix) ≡ 0 ⌝ }
-    ensures { λ r. ⌜ LanesCompared q lanes (input (now (password .entry)) (now (salt .entry)) (length (now (stored .entry)))) (now (stored .entry)) (now (matrix .entry)) (now (matrix .exit)) (r .costs) (flag (r .same)) ⌝ }
-{
-    let p = Parameters::usual(q);
-    let mut states = [Profile::start(); MAX_LANES];
-    let mut prevs = [0; MAX_LANES];
-    let done = check_over(
-        &mut states[..lanes],
-        &mut prevs[..lanes],
-        password,
-        salt,
-        p,
-        lanes,
-        stored,
-        matrix,
-    );
-    let spent = done.costs;
-    let costs = Costs {
-        refusal: 0,
-        full: clear_states(&mut states, spent.full),
-        reduced: spent.reduced,
-        rounds: spent.rounds,
-    };
-    Checked {
-        costs,
-        same: done.same,
-    }
+    let none: [u8; 0] = [];
+    let done = take_accepted(password, salt, q, lanes, l.key, key, &none, matrix);
+    clear_below(done.costs)
 }
 
 // Whether a stored key is the key of its length. The used matrix is left as zeros.
@@ -213,7 +176,13 @@ pub fn check_lanes(
         let costs = refused(number);
         return Checked { costs, same: false };
     }
-    check_accepted(password, salt, q, lanes, stored, matrix)
+    let mut none: [u8; 0] = [];
+    let done = take_accepted(password, salt, q, lanes, l.key, &mut none, stored, matrix);
+    let costs = clear_below(done.costs);
+    Checked {
+        costs,
+        same: done.same,
+    }
 }
 
 // The cost of a call that no check refuses.

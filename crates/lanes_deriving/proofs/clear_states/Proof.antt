@@ -33,5 +33,4 @@ pub clear-states-spec : {M : Type 1} → statement M
 clear-states-spec =
     tie.close
     (tie.spec Inv-loop μ-loop (λ c. (omega arith, refl, refl, λ j less. absurd (omega arith))) (omega arith) (omega arith) (λ c κs. tt) (omega arith) (omega arith) loop-again
-    (λ c. omega (arith, c .before .loop .inv .1)) (λ c κs. omega (arith, c .before .loop .inv .1)) (λ c. omega (arith, c .before .before .loop .inv .1, c .clear-stack .ensures)) (λ c. c .before .before .loop .inv .2)
-    (λ c. (omega (arith, c .before .before .loop .inv .1, c .clear-stack .ensures), λ i lt. c .before .before .loop .inv .3 i (omega (arith, c .before .loop-test .left, c .before .before .loop .inv .2)))))
+    (λ c. c .before .loop .inv .2) (λ c. (c .before .loop .inv .1, λ i lt. c .before .loop .inv .3 i (omega (arith, c .loop-test .left, c .before .loop .inv .2)))))

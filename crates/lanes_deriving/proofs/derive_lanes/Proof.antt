@@ -1,8 +1,9 @@
 -- `derive_lanes` meets its contract: a refusal that touches nothing, or the derivation. Assumes nothing.
 use mathlib.Core.Path.{refl, sym, _∙_}
 use native.Mathlib.Omega.{arith}
-use Rattle.derivation.proofs.Answering.{answered-no}
-use Rattle.lanes_deriving.proofs.LanesEnds.{cost-no}
+use Rattle.lists.proofs.ZipLaws.{put-all}
+use Rattle.derivation.proofs.Answering.{answered-yes, answered-no}
+use Rattle.lanes_deriving.proofs.LanesEnds.{cost-yes, cost-no, no-refusal, length-lanes-key}
 use Rattle.lanes_deriving.proofs.derive_lanes.Statement.{statement}
 use Rattle.lanes_deriving.proofs.derive_lanes.Tie as tie
 
@@ -16,8 +17,18 @@ returns c =
       matrix-after = answered-no _ _ e h refl;
     }
 
+returns-2 : tie.Need-returns-2
+returns-2 c =
+    let none = sym (c .before .before .before .before .before .before .before .before .before .before .lanes-room-refusal .ensures) ∙ c .before .before .before .before .before .before .before .before .before .if1 .left in
+    let taken = c .before .before .before .before .before .take-accepted .ensures in
+    record {
+      answer = cost-yes _ _ _ none refl (c .clear-below .ensures ∙ taken .answer);
+      key-after = answered-yes _ _ none (taken .key-is ∙ put-all _ _ (length-lanes-key _ _ _ _));
+      matrix-after = answered-yes _ _ none (taken .matrix-is);
+    }
+
 pub derive-lanes-spec : {M : Type 1} → statement M
 derive-lanes-spec =
     tie.close
-    (tie.spec (λ c κs. tt) (λ c κs. tt) returns (λ c κs. sym (c .before .before .before .lanes-room-refusal .ensures) ∙ c .before .before .if1 .left)
-    (omega arith) (omega arith) (λ c. c .before .before .before .before .derive-accepted .ensures))
+    (tie.spec (λ c κs. tt) (λ c κs. tt) returns (omega arith) (λ c κs. sym (c .before .before .before .before .lanes-room-refusal .ensures) ∙ c .before .before .before .if1 .left)
+    (λ c κs. no-refusal _ _ _ (c .before .before .before .before .take-accepted .ensures .answer)) (omega arith) (omega arith) returns-2)
