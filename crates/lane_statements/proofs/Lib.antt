@@ -2,3 +2,4 @@
 pub mod KeysOrder
 pub mod LanesAnyOrder
 pub mod LanesIndependence
+pub mod OtherOrders
