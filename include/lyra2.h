@@ -30,7 +30,7 @@
  * Stack         Less than LYRA2_STACK_BYTES, and of lyra2_lanes_derive and lyra2_lanes_check, which keep a state for
  *               each lane, less than LYRA2_LANES_STACK_BYTES. A call clears its state there: no word of the key, the
  *               password or the matrix was found afterwards, and of the state only what a recorded derivation returns.
- *               Calls with lanes leave up to seven more words that depend on the password and are none of these. This is
+ *               Of calls with lanes nothing there depends on the password, not even a row that a visit picked. This is
  *               measured and not promised. Registers are not cleared.
  */
 #ifndef LYRA2_H
