@@ -74,4 +74,5 @@ done
 
 halves=' mixer::doubled_product*?'
 look setup " places::RowStart::cell_start*12$halves" fill_row copy_row setup_row
-look wandering " packing::note*65536 places::RowStart::cell_start*12$halves" visit_row
+look visits " packing::note*65536 places::RowStart::cell_start*12$halves" visit_row
+look lane_visits " places::RowStart::cell_start*12$halves" visit_row

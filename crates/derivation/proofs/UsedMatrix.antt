@@ -12,7 +12,7 @@ use Rattle.settings.specs.Sizes.{matrixWords, visitCount}
 use Rattle.input.specs.Input.{Input, inputState}
 use Rattle.columns.specs.Columns.{work}
 use Rattle.setup.proofs.SetupWithin.{setup-within}
-use Rattle.wandering.proofs.VisitsWithin.{wander-within}
+use Rattle.visits.proofs.VisitsWithin.{wander-within}
 use Rattle.derivation.specs.Derivation.{setupEnd, walkEnd, endMatrix}
 
 module _ (S : Settings) (least : 3 ≤ S .rows) (x : Input) (m : List ℕ) where

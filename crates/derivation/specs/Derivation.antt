@@ -7,8 +7,8 @@ use Rattle.input.specs.Input.{Input, inputState}
 use Rattle.columns.specs.Columns.{work}
 use Rattle.setup_order.specs.SetupOrder.{order}
 use Rattle.setup.specs.Setup.{setup}
-use Rattle.wandering.specs.Visits.{Walk, walk, Visit, wander, visits}
-use Rattle.wandering.specs.Encoding.{encode}
+use Rattle.visits.specs.Visits.{Walk, walk, Visit, wander, visits}
+use Rattle.visits.specs.Encoding.{encode}
 use Rattle.last_cell.specs.LastCell.{lastAbsorbed}
 use Rattle.key.specs.Key.{keyBytes}
 

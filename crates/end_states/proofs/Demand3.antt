@@ -14,8 +14,8 @@ use Rattle.settings.specs.Settings.{settings}
 use Rattle.settings.specs.Sizes.{matrixWords, recordWords, visitCount}
 use Rattle.settings.specs.declared.Parameters.{Parameters}
 use Rattle.input.specs.Input.{lengths, inputState}
-use Rattle.wandering.specs.Wandered.{Packable}
-use Rattle.wandering.proofs.Recording.{length-visits}
+use Rattle.visits.specs.Wandered.{Packable}
+use Rattle.visits.proofs.Recording.{length-visits}
 use Rattle.refusals.specs.Checks.{Accepted, costChecks, plainChecks, recordedChecks}
 use Rattle.refusals.proofs.Accepted.{accepted}
 use Rattle.derivation.specs.Derivation.{setupEnd, endRecord}

@@ -16,9 +16,9 @@ use Rattle.settings.specs.Sizes.{matrixWords, visitCount}
 use Rattle.matrix.proofs.Apart.{cells-words, words-cells}
 use Rattle.input.specs.Input.{Input, input, lengths, inputBlocks, paddedInput, inputState}
 use Rattle.input.proofs.InputLaws.{input-state, input-state-inj, length-padded-input}
-use Rattle.wandering.specs.Encoding.{encode, decode}
-use Rattle.wandering.specs.Wandered.{Packable}
-use Rattle.wandering.proofs.EncodingLaws.{decode-visits}
+use Rattle.visits.specs.Encoding.{encode, decode}
+use Rattle.visits.specs.Wandered.{Packable}
+use Rattle.visits.proofs.EncodingLaws.{decode-visits}
 use Rattle.derivation.specs.Derivation.{setupEnd, walkEnd, endState, endMatrix, endRecord}
 use Rattle.end_states.specs.EndStates.{endOf, EndAlike, StartAlike, AtMostOneDiffers, blocksOf}
 use Rattle.end_states.proofs.Walks.{walk-forth, walk-back}

@@ -13,10 +13,10 @@ use Rattle.settings.specs.Settings.{settings}
 use Rattle.settings.specs.Sizes.{visitCount}
 use Rattle.settings.specs.declared.Parameters.{Parameters}
 use Rattle.columns.specs.declared.Picks.{Picks}
-use Rattle.wandering.specs.Visits.{Visit}
-use Rattle.wandering.specs.Encoding.{encodePicks, encodeVisit, encode, decode}
-use Rattle.wandering.proofs.EncodingLaws.{LowPicks, LowVisits, low-visits, decode-visits}
-use Rattle.wandering.proofs.Recording.{length-visits}
+use Rattle.visits.specs.Visits.{Visit}
+use Rattle.visits.specs.Encoding.{encodePicks, encodeVisit, encode, decode}
+use Rattle.visits.proofs.EncodingLaws.{LowPicks, LowVisits, low-visits, decode-visits}
+use Rattle.visits.proofs.Recording.{length-visits}
 use Rattle.derivation.specs.Derivation.{endRecord}
 use Rattle.end_states.specs.EndStates.{End, endOf}
 use Rattle.end_states.specs.Trials.{Trial, leftBy}

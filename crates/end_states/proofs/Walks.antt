@@ -18,8 +18,8 @@ use Rattle.columns.specs.Columns.{work}
 use Rattle.columns.proofs.View.{Sound, Below}
 use Rattle.setup_order.proofs.Windows.{prev1-lt}
 use Rattle.setup.proofs.SetupKeeps.{setup-keeps}
-use Rattle.wandering.specs.Visits.{Walk, wander, visits}
-use Rattle.wandering.proofs.VisitsUndone.{SoundWalk, SameDone, SameRows, wander-sound, wander-rows, wander-forth, wander-back}
+use Rattle.visits.specs.Visits.{Walk, wander, visits}
+use Rattle.visits.proofs.VisitsUndone.{SoundWalk, SameDone, SameRows, wander-sound, wander-rows, wander-forth, wander-back}
 use Rattle.input.specs.Input.{Input, inputState}
 use Rattle.input.proofs.InputLaws.{input-state}
 use Rattle.key.specs.Key.{keyBytes}

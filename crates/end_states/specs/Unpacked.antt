@@ -4,7 +4,7 @@ use mathlib.Core.List.{List, [], _∷_, _++_}
 use Rattle.settings.specs.Settings.{settings}
 use Rattle.settings.specs.declared.Parameters.{Parameters}
 use Rattle.columns.specs.declared.Picks.{Picks}
-use Rattle.wandering.specs.Visits.{Visit}
+use Rattle.visits.specs.Visits.{Visit}
 use Rattle.derivation.specs.Derivation.{endVisits}
 use Rattle.end_states.specs.Trials.{Trial, inputOf}
 

@@ -14,7 +14,7 @@ use Rattle.settings.specs.declared.Lengths.{Lengths}
 use Rattle.padded_input.specs.Padded.{blocks}
 use Rattle.input.specs.Input.{Input, lengths, inputBlocks}
 use Rattle.columns.specs.Columns.{work}
-use Rattle.wandering.specs.Visits.{Walk, walk}
+use Rattle.visits.specs.Visits.{Walk, walk}
 use Rattle.key.specs.Key.{keyBytes, callsBetween}
 use Rattle.refusals.specs.Checks.{Accepted, costChecks, plainChecks}
 use Rattle.derivation.specs.Answers.{spentOn, costs}

@@ -7,7 +7,7 @@ use Rattle.settings.specs.Settings.{settings}
 use Rattle.settings.specs.declared.Parameters.{Parameters}
 use Rattle.input.specs.Input.{Input, lengths, inputBlocks}
 use Rattle.columns.specs.Columns.{work}
-use Rattle.wandering.specs.Visits.{walk}
+use Rattle.visits.specs.Visits.{walk}
 use Rattle.derivation.specs.Cost.{reducedCost}
 use Rattle.derivation.specs.Derivation.{walkEnd, endRecord}
 use Rattle.runs.specs.declared.Ran.{Ran}

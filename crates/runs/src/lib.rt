@@ -13,7 +13,7 @@ ghost use Rattle.settings.specs.Settings.{settings};
 ghost use Rattle.settings.specs.Sizes.{matrixWords};
 ghost use Rattle.input.specs.Input.{input, lengths};
 ghost use Rattle.columns.specs.Columns.{work};
-ghost use Rattle.wandering.specs.Visits.{walk, wander};
+ghost use Rattle.visits.specs.Visits.{walk, wander};
 ghost use Rattle.refusals.specs.Checks.{Accepted, plainChecks};
 ghost use Rattle.derivation.specs.Derivation.{finalState};
 ghost use Rattle.runs.specs.Runs.{Run};

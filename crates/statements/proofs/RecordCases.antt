@@ -5,8 +5,8 @@ use Prim.Native.Nat.{ℕ, _+_, _-_, _^_}
 use mathlib.Core.List.{List, [], _∷_}
 use Rattle.settings.specs.Settings.{usual}
 use Rattle.columns.specs.declared.Picks.{Picks}
-use Rattle.wandering.specs.Visits.{Visit}
-use Rattle.wandering.specs.Encoding.{encodePicks, encodeVisit, encode, decodePicks, decodeVisit, decode}
+use Rattle.visits.specs.Visits.{Visit}
+use Rattle.visits.specs.Encoding.{encodePicks, encodeVisit, encode, decodePicks, decodeVisit, decode}
 use Rattle.refusals.specs.Checks.{first, costChecks, plainChecks, recordedChecks}
 
 abbrev picksOf : ℕ → ℕ → Picks

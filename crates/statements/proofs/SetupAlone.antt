@@ -13,8 +13,8 @@ use Rattle.input.specs.Input.{Input, inputState}
 use Rattle.matrix.specs.Cells.{cellAt}
 use Rattle.columns.specs.Columns.{Work, work}
 use Rattle.setup.specs.Setup.{setup}
-use Rattle.wandering.specs.Visits.{Walk, wander, visits}
-use Rattle.wandering.specs.Encoding.{encode}
+use Rattle.visits.specs.Visits.{Walk, wander, visits}
+use Rattle.visits.specs.Encoding.{encode}
 use Rattle.key.specs.Key.{keyBytes}
 use Rattle.derivation.specs.Cost.{reducedCost}
 use Rattle.derivation.specs.Derivation.{setupEnd, walkEnd, finalState, keyOf, endState, endMatrix, endRecord}

@@ -16,8 +16,8 @@ use Rattle.columns.specs.Columns.{Work, work}
 use Rattle.setup_order.specs.declared.Order.{Order}
 use Rattle.setup_order.proofs.Windows.{prev1-lt}
 use Rattle.setup.specs.Setup.{setup}
-use Rattle.wandering.specs.Visits.{Walk, walk, wander, visits}
-use Rattle.wandering.specs.Encoding.{encode}
+use Rattle.visits.specs.Visits.{Walk, walk, wander, visits}
+use Rattle.visits.specs.Encoding.{encode}
 use Rattle.refusals.specs.Checks.{Accepted, plainChecks, costChecks}
 use Rattle.refusals.proofs.Accepted.{cells-most, visits-most, record-most}
 use Rattle.derivation.specs.Derivation.{setupEnd, walkEnd, endRecord}

@@ -12,9 +12,9 @@ use Rattle.settings.specs.Sizes.{visitWords}
 use Rattle.settings.specs.declared.Parameters.{Parameters}
 use Rattle.columns.specs.Columns.{work}
 use Rattle.columns.proofs.RowLaws.{row-more, row-before}
-use Rattle.wandering.specs.Visits.{Walk, walk}
-use Rattle.wandering.specs.Wandered.{Wandered}
-use Rattle.wandering.proofs.Recording.{wandered-none, wandered-more}
+use Rattle.visits.specs.Visits.{Walk, walk}
+use Rattle.visits.specs.Wandered.{Wandered}
+use Rattle.visits.proofs.Recording.{wandered-none, wandered-more}
 use Rattle.wandering.proofs.wander.Statement.{statement}
 use Rattle.wandering.proofs.wander.Tie as tie
 

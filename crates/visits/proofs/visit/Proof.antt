@@ -11,11 +11,11 @@ use Rattle.columns.specs.declared.Rows.{Rows}
 use Rattle.settings.specs.Settings.{settings}
 use Rattle.columns.specs.Columns.{work}
 use Rattle.columns.proofs.RowLaws.{within}
-use Rattle.wandering.specs.Visits.{walk, pickedRows, columnPicks}
-use Rattle.wandering.specs.Encoding.{encodePicks}
-use Rattle.wandering.proofs.Recording.{visit-done, visit-noted}
-use Rattle.wandering.proofs.visit.Statement.{statement}
-use Rattle.wandering.proofs.visit.Tie as tie
+use Rattle.visits.specs.Visits.{walk, pickedRows, columnPicks}
+use Rattle.visits.specs.Encoding.{encodePicks}
+use Rattle.visits.proofs.Recording.{visit-done, visit-noted}
+use Rattle.visits.proofs.visit.Statement.{statement}
+use Rattle.visits.proofs.visit.Tie as tie
 
 note-requires : tie.Need-note-requires
 note-requires c κs =

@@ -4,7 +4,7 @@ use mathlib.Core.List.{List, [], _∷_, _++_}
 use lib.ListN.{take, drop}
 use Rattle.packing.specs.Packing.{packed, lowOf, highOf}
 use Rattle.columns.specs.declared.Picks.{Picks}
-use Rattle.wandering.specs.Visits.{Visit}
+use Rattle.visits.specs.Visits.{Visit}
 
 -- a word for each column: col0, with col1 above it
 unfoldable pub encodePicks : List Picks → List ℕ

@@ -13,11 +13,11 @@ use Rattle.settings.specs.Settings.{settings}
 use Rattle.columns.specs.declared.Picks.{Picks}
 use Rattle.columns.specs.Columns.{Work, work, picks, visitColumn}
 use Rattle.columns.proofs.ColumnSteps.{visit-column-done}
-use Rattle.wandering.specs.Visits.{visitColumns, columnPicks}
-use Rattle.wandering.specs.Encoding.{encodePicks}
-use Rattle.wandering.proofs.Recording.{column-noted}
-use Rattle.wandering.proofs.visit_row.Statement.{statement}
-use Rattle.wandering.proofs.visit_row.Tie as tie
+use Rattle.visits.specs.Visits.{visitColumns, columnPicks}
+use Rattle.visits.specs.Encoding.{encodePicks}
+use Rattle.visits.proofs.Recording.{column-noted}
+use Rattle.visits.proofs.visit_row.Statement.{statement}
+use Rattle.visits.proofs.visit_row.Tie as tie
 
 abbrev Inv-loop : tie.InvT-loop
 Inv-loop s₀ m₀ p record₀ at starts next₀ calls₀ col₀ s m «record» next calls col = (col ≤ p .columns) × (calls ≡ col) × (length m ≡ length m₀) × (length «record» ≡ length record₀) × Picked (settings p) s next × AtRows (p .columns) starts (λ r. (work s m ≡ visitColumns (settings p) r col (work s₀ m₀)) × («record» ≡ zipAt (λ (x y : ℕ). y) at record₀ (encodePicks (columnPicks (settings p) r col (work s₀ m₀)))))

@@ -6,8 +6,8 @@ use Rattle.lists.specs.Zip.{zipAt, putInto}
 use Rattle.packing.specs.Packing.{pairFactor}
 use Rattle.settings.specs.Settings.{Settings}
 use Rattle.settings.specs.Sizes.{matrixWords}
-use Rattle.wandering.specs.Visits.{Walk, visit, wander, visitData, visits}
-use Rattle.wandering.specs.Encoding.{encodeVisit, encode}
+use Rattle.visits.specs.Visits.{Walk, visit, wander, visitData, visits}
+use Rattle.visits.specs.Encoding.{encodeVisit, encode}
 
 -- there are rows and columns, and their numbers are below the factor, so that a word tells two of them
 pub record Packable (S : Settings) : Type 0 where

@@ -5,9 +5,9 @@ use native.Mathlib.Omega.{arith}
 use denote.Ref.{now}
 use Rattle.settings.specs.Settings.{settings}
 use Rattle.picks.proofs.Words.{picked-by}
-use Rattle.wandering.specs.Visits.{pickedRows}
-use Rattle.wandering.proofs.pick_rows.Statement.{statement}
-use Rattle.wandering.proofs.pick_rows.Tie as tie
+use Rattle.visits.specs.Visits.{pickedRows}
+use Rattle.visits.proofs.pick_rows.Statement.{statement}
+use Rattle.visits.proofs.pick_rows.Tie as tie
 
 returns : tie.Need-returns
 unfolding pickedRows

@@ -15,11 +15,11 @@ use Rattle.settings.specs.Sizes.{visitWords}
 use Rattle.columns.specs.declared.Rows.{Rows}
 use Rattle.columns.specs.declared.Picks.{Picks}
 use Rattle.columns.specs.Columns.{Work, picks}
-use Rattle.wandering.specs.Visits.{Walk, walk, Visit, pickedRows, visitColumns, visit, wander, columnPicks, visitData, visits}
+use Rattle.visits.specs.Visits.{Walk, walk, Visit, pickedRows, visitColumns, visit, wander, columnPicks, visitData, visits}
 use Rattle.columns.proofs.RowLaws.{row-more}
-use Rattle.wandering.specs.Encoding.{encodePicks, encodeVisit, encode}
-use Rattle.wandering.specs.Wandered.{OneVisit, Wandered}
-use Rattle.wandering.proofs.EncodingLaws.{length-picks, as-many-picks}
+use Rattle.visits.specs.Encoding.{encodePicks, encodeVisit, encode}
+use Rattle.visits.specs.Wandered.{OneVisit, Wandered}
+use Rattle.visits.proofs.EncodingLaws.{length-picks, as-many-picks}
 
 pub encodePicks-snoc : (ps : List Picks) (p : Picks) → encodePicks (ps ++ (p ∷ [])) ≡ encodePicks ps ++ (packed (p .col0 .0) (p .col1 .0) ∷ [])
 unfolding encodePicks

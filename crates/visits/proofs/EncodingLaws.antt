@@ -14,9 +14,9 @@ use Rattle.settings.specs.Settings.{Settings}
 use Rattle.columns.specs.Columns.{Work, picks}
 use Rattle.columns.specs.declared.Rows.{Rows}
 use Rattle.columns.specs.declared.Picks.{Picks}
-use Rattle.wandering.specs.Visits.{Walk, Visit, wander, columnPicks, visitColumns, pickedRows, visitData, visits}
-use Rattle.wandering.specs.Encoding.{encodePicks, encodeVisit, encode, decodePicks, decodeVisit, decode}
-use Rattle.wandering.specs.Wandered.{Packable}
+use Rattle.visits.specs.Visits.{Walk, Visit, wander, columnPicks, visitColumns, pickedRows, visitData, visits}
+use Rattle.visits.specs.Encoding.{encodePicks, encodeVisit, encode, decodePicks, decodeVisit, decode}
+use Rattle.visits.specs.Wandered.{Packable}
 
 pub length-picks : (ps : List Picks) → length (encodePicks ps) ≡ length ps
 unfolding encodePicks

@@ -12,7 +12,7 @@ use Rattle.columns.specs.declared.Rows.{Rows}
 use Rattle.columns.specs.declared.Picks.{Picks}
 use Rattle.columns.proofs.View.{Same, Sound, Below}
 use Rattle.columns.proofs.ColumnSteps.{RowsBelow, picked-column-keeps}
-use Rattle.wandering.specs.Visits.{Walk, pickedRows, visitColumns, visit, wander, columnPicks, visitData, visits}
+use Rattle.visits.specs.Visits.{Walk, pickedRows, visitColumns, visit, wander, columnPicks, visitData, visits}
 
 -- a walk over R rows of C columns
 pub record SoundWalk (R C : ℕ) (w : Walk) : Type 0 where

@@ -8,7 +8,7 @@ use Rattle.settings.specs.Settings.{Settings}
 use Rattle.columns.specs.Columns.{picks}
 use Rattle.columns.proofs.RowLaws.{row-before}
 use Rattle.columns.proofs.Within.{within-loop, visit-column-within}
-use Rattle.wandering.specs.Visits.{Walk, pickedRows, visitColumns, visit, wander}
+use Rattle.visits.specs.Visits.{Walk, pickedRows, visitColumns, visit, wander}
 
 module _ (S : Settings) (some : 0 < S .rows) where
   abbrev n : ℕ
