@@ -61,7 +61,7 @@ fn put_text(line: &[u8], from: usize, to: usize, out: &mut [u8])
     requires { ⌜ (from ≤ to) × (to ≤ length (now line)) × (decodedLength (length (partOf (now line) from to)) ≤ length (now out)) ⌝ }
     ensures { λ _. ⌜ now (out .exit) ≡ putInto (now (out .entry)) (decode (partOf (now (line .entry)) from to)) ⌝ }
 {
-    base64::put_decoded(&line[from..to], out)
+    base64_decoding::put_decoded(&line[from..to], out)
 }
 
 // Reads a line: salt and key are put at the start of their outputs once nothing can be refused any more.

@@ -1,5 +1,5 @@
 // The texts of a login line: their form, and what they say.
-use base64::decoded_length;
+use base64_decoding::decoded_length;
 use line_form::LineValues;
 use line_marks::Ends;
 use line_marks::NUMBER_MARK;
@@ -28,7 +28,7 @@ fn is_text_at(line: &[u8], from: usize, to: usize) -> bool
     requires { ⌜ (from ≤ to) × (to ≤ length (now line)) ⌝ }
     ensures { λ r. ⌜ r ≡ isText (partOf (now (line .entry)) from to) ⌝ }
 {
-    base64::is_text(&line[from..to])
+    base64_decoding::is_text(&line[from..to])
 }
 
 fn number_at(line: &[u8], from: usize, to: usize) -> usize

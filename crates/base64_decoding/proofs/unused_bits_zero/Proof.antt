@@ -1,8 +1,8 @@
 -- `unused_bits_zero` meets its contract by the cases of the length. Assumes nothing.
 use native.Mathlib.Omega.{arith}
 use Rattle.base64.proofs.Reading.{unused-four, unused-two, unused-none}
-use Rattle.base64.proofs.unused_bits_zero.Statement.{statement}
-use Rattle.base64.proofs.unused_bits_zero.Tie as tie
+use Rattle.base64_decoding.proofs.unused_bits_zero.Statement.{statement}
+use Rattle.base64_decoding.proofs.unused_bits_zero.Tie as tie
 
 pub unused-bits-zero-spec : {M : Type 1} → statement M
 unused-bits-zero-spec =

@@ -1,9 +1,9 @@
 -- `octet` meets its contract: the letters make the group's number, and a shift is a division. Assumes nothing.
 use native.Mathlib.Omega.{arith}
 use Rattle.base64.specs.Base64.{four, octet, decodedLength}
 use Rattle.base64.proofs.Groups.{shift-3}
-use Rattle.base64.proofs.octet.Statement.{statement}
-use Rattle.base64.proofs.octet.Tie as tie
+use Rattle.base64_decoding.proofs.octet.Statement.{statement}
+use Rattle.base64_decoding.proofs.octet.Tie as tie
 
 pub octet-spec : {M : Type 1} → statement M
 unfolding four octet decodedLength

@@ -2,9 +2,9 @@
 use mathlib.Core.Path.{sym, _∙_}
 use native.Mathlib.Omega.{arith}
 use Rattle.base64_letters.proofs.LetterLaws.{value-most}
 use Rattle.base64.proofs.Elements.{value-inside, past-value}
-use Rattle.base64.proofs.value_at.Statement.{statement}
-use Rattle.base64.proofs.value_at.Tie as tie
+use Rattle.base64_decoding.proofs.value_at.Statement.{statement}
+use Rattle.base64_decoding.proofs.value_at.Tie as tie
 
 pub value-at-spec : {M : Type 1} → statement M
 value-at-spec =

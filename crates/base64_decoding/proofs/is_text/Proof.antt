@@ -4,10 +4,10 @@ use Prim.Native.Nat.{_-_}
 use native.Mathlib.Omega.{arith}
 use lib.ListN.{length}
 use Rattle.lists.proofs.EveryLaws.{Passed, passed-none}
 use Rattle.base64.specs.Base64.{isLetter}
 use Rattle.base64.proofs.Reading.{letter-more, no-letter, letter-over, all-read}
-use Rattle.base64.proofs.is_text.Statement.{statement}
-use Rattle.base64.proofs.is_text.Tie as tie
+use Rattle.base64_decoding.proofs.is_text.Statement.{statement}
+use Rattle.base64_decoding.proofs.is_text.Tie as tie
 
 pub is-text-spec : {M : Type 1} → statement M
 is-text-spec =
