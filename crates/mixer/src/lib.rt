@@ -1,11 +1,11 @@
 // BLAKE2b's mixing function G, without message words, with the addition of either mixer.
-ghost use mathlib.Core.Path.{_≡_};
-ghost use Prim.Native.Nat.{_%_, _^_, _<_};
-ghost use Rattle·mixer·specs.specs.Word.{turn_right};
-ghost use Rattle·mixer·specs.specs.Mixers.{doubled_product, sum_of, mixer_of};
-ghost use Rattle·mixer·specs.specs.G.{half_g, G};
+ghost use Rattle.std.specs.Prelude.{◌≡◌, ◌%◌, ◌^◌, ◌<◌};
+ghost use Rattle.mixer.specs.Word.{turn_right};
+ghost use Rattle.mixer.specs.Mixers.{doubled_product, sum_of, mixer_of};
+ghost use Rattle.mixer.specs.G.{half_g, G};
 
 // Which addition G takes: the sum of two words, or BlaMka's, which adds the doubled product of their low halves.
+#[derive(Drop)]
 pub enum Mixer {
     Plain,
     BlaMka,
@@ -14,7 +14,7 @@ pub enum Mixer {
 impl Mixer {
     // For callers in C, whose enumerations hold other numbers too: a bool has two values and no third.
     pub fn of(blamka: bool) -> Mixer
-        ensures { λ r. ⌜ r ≡ mixer_of blamka ⌝ }
+        ensures { result ≡ mixer_of blamka }
     {
         if blamka {
             return Mixer::BlaMka;
@@ -24,6 +24,7 @@ impl Mixer {
 }
 
 // The four words that G works on.
+#[derive(Drop)]
 pub struct Words {
     pub a: u64,
     pub b: u64,
@@ -33,7 +34,7 @@ pub struct Words {
 
 // Twice the product of the low halves, without the carry out of bit 63.
 pub fn doubled_product(a: u64, b: u64) -> u64
-    ensures { λ r. ⌜ r ≡ doubled_product a b % 2 ^ 64 ⌝ }
+    ensures { result ≡ doubled_product a b % 2 ^ 64 }
 {
     let product = (a % 4_294_967_296) * (b % 4_294_967_296);
     std::num::wrapping_add_u64(product, product)
@@ -41,7 +42,7 @@ pub fn doubled_product(a: u64, b: u64) -> u64
 
 // In this order of the sums BlaMka's is fastest.
 fn add(mixer: Mixer, a: u64, b: u64) -> u64
-    ensures { λ r. ⌜ r ≡ sum_of mixer a b ⌝ }
+    ensures { result ≡ sum_of mixer a b }
 {
     match mixer {
         Mixer::Plain => std::num::wrapping_add_u64(a, b),
@@ -53,15 +54,15 @@ fn add(mixer: Mixer, a: u64, b: u64) -> u64
 }
 
 fn turn_right(x: u64, n: u32) -> u64
-    requires { ⌜ (0 < n) × (n < 64) ⌝ }
-    ensures { λ r. ⌜ r ≡ turn_right n x ⌝ }
+    requires { (0 < n) × (n < 64) }
+    ensures { result ≡ turn_right n x }
 {
     (x >> n) | (x << (64 - n))
 }
 
 pub fn half_g(mixer: Mixer, w: Words, m: u32, n: u32) -> Words
-    requires { ⌜ (0 < m) × (m < 64) × (0 < n) × (n < 64) ⌝ }
-    ensures { λ r. ⌜ r ≡ half_g (sum_of mixer) m n w ⌝ }
+    requires { (0 < m) × (m < 64) × (0 < n) × (n < 64) }
+    ensures { result ≡ half_g (sum_of mixer) m n w }
 {
     let a = add(mixer, w.a, w.b);
     let d = turn_right(w.d ^ a, m);
@@ -71,7 +72,7 @@ pub fn half_g(mixer: Mixer, w: Words, m: u32, n: u32) -> Words
 }
 
 pub fn g(mixer: Mixer, w: Words) -> Words
-    ensures { λ r. ⌜ r ≡ G (sum_of mixer) w ⌝ }
+    ensures { result ≡ G (sum_of mixer) w }
 {
     half_g(mixer, half_g(mixer, w, 32, 24), 16, 63)
 }
