@@ -1,5 +1,6 @@
 // Whether the numbers of a book's accounts are distinct. No memory is lent to remember them in, so a block of them at a time is held on the
 // stack and compared with all behind it.
+#![tactic(auto)]
 ghost use Rattle.std.specs.Prelude.{◌≡◌, true, ◌<◌, length};
 ghost use Rattle.accounts.specs.Accounts.{accounts};
 ghost use Rattle.accounts.specs.Book.{distinct, is_run, Running};
@@ -40,7 +41,7 @@ fn all_differ(numbers: &[u32]) -> bool
 }
 
 // How many numbers a block has, and the place of the account behind them.
-#[derive(Drop)]
+#[derive(Clone, Copy)]
 pub struct Block {
     pub count: usize,
     pub end: usize,

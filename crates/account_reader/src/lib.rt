@@ -1,12 +1,13 @@
 // A reader over a lent book of accounts, which steps from account to account: the book's slice and a place in it. Its functions are thin;
 // the work is that of `account_heads`, over a slice and a number. What has plain parameters serves the loops over a book.
+#![tactic(auto)]
 ghost use Rattle.std.specs.Prelude.{◌≡◌, ◌+◌, drop};
 ghost use Rattle.accounts.specs.Accounts.{entry_of};
 
 use account_heads::entry_at;
 use accounts::Entry;
 
-#[derive(Drop)]
+#[derive(Clone, Copy)]
 pub struct Reader<'a> {
     pub book: &'a [u8],
     pub at: usize,

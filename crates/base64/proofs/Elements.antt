@@ -5,8 +5,8 @@ use native.Mathlib.Decide.{dec_lt}
 use native.Mathlib.Omega.{arith}
 use mathlib.Core.List.{List}
 use lib.ListN.{length, get_or, get_or-eq_default}
-use Rattle.lists.proofs.ZipLaws.{length-tabulate, get_d_tabulate}
-use Rattle.lists.proofs.Parts.{get_d_inside}
+use Rattle.lists.proofs.ZipLaws.{length-tabulate, get_or-tabulate}
+use Rattle.lists.proofs.Parts.{get_or-inside}
 use Rattle.base64_letters.specs.Letters.{letter, value_of}
 use Rattle.base64.specs.Base64.{three, sextet, encoded_length, encode, value_at, four, octet, decoded_length, decode}
 
@@ -22,20 +22,20 @@ length-decode t = length-tabulate _ _
 
 -- ---- elements
 
-pub get_d_encode : (l : List ℕ) (i : ℕ) → i < encoded_length (length l) → get_or (encode l) i 0 ≡ letter (sextet l i)
+pub get_or-encode : (l : List ℕ) (i : ℕ) → i < encoded_length (length l) → get_or (encode l) i 0 ≡ letter (sextet l i)
 unfolding encode
-get_d_encode l i h = get_d_tabulate _ (λ i. letter (sextet l i)) i h
+get_or-encode l i h = get_or-tabulate _ (λ i. letter (sextet l i)) i h
 
-pub get_d_decode : (t : List ℕ) (j : ℕ) → j < decoded_length (length t) → get_or (decode t) j 0 ≡ octet t j
+pub get_or-decode : (t : List ℕ) (j : ℕ) → j < decoded_length (length t) → get_or (decode t) j 0 ≡ octet t j
 unfolding decode
-get_d_decode t j h = get_d_tabulate _ (octet t) j h
+get_or-decode t j h = get_or-tabulate _ (octet t) j h
 
 pub past_byte : (l : List ℕ) (j : ℕ) → length l ≤ j → get_or l j 0 ≡ 0
 past_byte l j h = get_or-eq_default l 0 h
 
 pub value_inside : (t : List ℕ) (i : ℕ) → i < length t → value_at t i ≡ value_of (get_or t i 0)
 unfolding value_at
-value_inside t i h = ap value_of (get_d_inside t i 65 0 h)
+value_inside t i h = ap value_of (get_or-inside t i 65 0 h)
 
 pub past_value : (t : List ℕ) (i : ℕ) → length t ≤ i → value_at t i ≡ 0
 unfolding value_at value_of
@@ -52,7 +52,7 @@ pub decode_bytes : (t : List ℕ) (i : ℕ) → get_or (decode t) i 0 < 256
 unfolding octet
 decode_bytes t i =
     elim (dec_lt i (decoded_length (length t))) [
-      | yes inside ↦ rw (get_d_decode t i inside) (omega arith)
+      | yes inside ↦ rw (get_or-decode t i inside) (omega arith)
       | no past ↦ rw (past_byte (decode t) i (omega (arith, length-decode t))) (omega arith)
     ]
 

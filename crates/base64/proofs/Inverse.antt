@@ -9,12 +9,12 @@ use native.Mathlib.Omega.{arith}
 use mathlib.Core.List.{List}
 use lib.ListN.{length, get_or}
 use lib.Seq.{ext_get_or}
-use Rattle.lists.proofs.Parts.{get_d_inside}
+use Rattle.lists.proofs.Parts.{get_or-inside}
 use Rattle.base64_letters.specs.Letters.{letter}
 use Rattle.base64_letters.proofs.LetterLaws.{letter_value}
 use Rattle.base64.specs.Base64.{three, sextet, encoded_length, encode, value_at, four, octet, decoded_length, decode, unused, is_text}
 use Rattle.base64.proofs.Groups.{by_threes, by_fours, number_4_small, digit_4, number_of_digits_4, number_3_small, digit_3, number_of_digits_3}
-use Rattle.base64.proofs.Elements.{length-encode, length-decode, get_d_encode, get_d_decode, past_byte, past_value, sextet_at, octet_at}
+use Rattle.base64.proofs.Elements.{length-encode, length-decode, get_or-encode, get_or-decode, past_byte, past_value, sextet_at, octet_at}
 use Rattle.base64.proofs.Texts.{Text, text_is, value_encode}
 
 -- ---- bytes to text and back
@@ -41,7 +41,7 @@ unfolding encoded_length decoded_length
 decode-encode l bytes =
     let whole : decoded_length (length (encode l)) ≡ length l = omega (arith, length-encode l) in
     ext_get_or 0 (decode (encode l)) l (length-decode (encode l) ∙ whole)
-    (λ j h. get_d_decode (encode l) j (omega (arith, length-decode (encode l))) ∙ octet-encode l bytes j)
+    (λ j h. get_or-decode (encode l) j (omega (arith, length-decode (encode l))) ∙ octet-encode l bytes j)
 
 -- ---- text to bytes and back
 
@@ -97,7 +97,7 @@ module _ (t : List ℕ) (text : Text t) where
   byte_decode : (j : ℕ) → get_or (decode t) j 0 ≡ octet t j
   byte_decode j =
       elim (dec_lt j (decoded_length (length t))) [
-        | yes inside ↦ get_d_decode t j inside
+        | yes inside ↦ get_or-decode t j inside
         | no past ↦ past_byte (decode t) j (omega (arith, length-decode t)) ∙ sym (past_octet j (omega arith))
       ]
 
@@ -127,4 +127,4 @@ encode-decode t h =
     length-encode (decode t) ∙ ap encoded_length (length-decode t) ∙ encoded_decoded (length t) text.whole in
     ext_get_or 0 (encode (decode t)) t long
     (λ i inside.
-    get_d_encode (decode t) i (omega (arith, length-encode (decode t))) ∙ letter-decode t text i ∙ get_d_inside t i 65 0 (omega arith))
+    get_or-encode (decode t) i (omega (arith, length-encode (decode t))) ∙ letter-decode t text i ∙ get_or-inside t i 65 0 (omega arith))

@@ -14,7 +14,7 @@ use Rattle.base64_letters.specs.Letters.{value_of}
 use Rattle.base64_letters.proofs.LetterLaws.{value_letter}
 use Rattle.base64.specs.Base64.{three, sextet, encoded_length, encode, value_at, unused, is_letter, all_letters, is_text}
 use Rattle.base64.proofs.Groups.{by_threes, by_fours}
-use Rattle.base64.proofs.Elements.{length-encode, get_d_encode, past_byte, value_inside, past_value, sextet_small, sextet_at}
+use Rattle.base64.proofs.Elements.{length-encode, get_or-encode, past_byte, value_inside, past_value, sextet_small, sextet_at}
 
 -- ---- what a text is
 
@@ -72,7 +72,7 @@ pub value_encode : (l : List ℕ) (i : ℕ) → value_at (encode l) i ≡ sextet
 value_encode l i =
     elim (dec_lt i (encoded_length (length l))) [
       | yes inside ↦
-          value_inside (encode l) i (omega (arith, length-encode l)) ∙ ap value_of (get_d_encode l i inside) ∙ value_letter (sextet l i) (sextet_small l i)
+          value_inside (encode l) i (omega (arith, length-encode l)) ∙ ap value_of (get_or-encode l i inside) ∙ value_letter (sextet l i) (sextet_small l i)
       | no past ↦ past_value (encode l) i (omega (arith, length-encode l)) ∙ sym (past_sextet l i (omega arith))
     ]
 

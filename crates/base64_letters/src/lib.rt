@@ -1,4 +1,6 @@
 // The letters of base 64. Keys are secret, so neither direction branches on its value or looks it up in a table.
+#![tactic(auto)]
+
 ghost use Rattle.std.specs.Prelude.{◌≡◌, cond, ◌&&◌, ◌+◌, ◌-◌, ◌/◌, ◌≤◌, ◌<◌, leb, ltb};
 ghost use Rattle.base64_letters.specs.Letters.{letter, value_of};
 

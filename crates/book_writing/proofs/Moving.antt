@@ -9,7 +9,7 @@ use lib.ListN.{length, get_or, take, drop, replicate, length-append, length-drop
 use lib.Seq.{get_or-take, get_or-drop, get_or-append-add, length-take-le}
 use borrow.Author.Tests.{ltb-true, ltb-false}
 use Rattle.lists.proofs.Placed.{Placed}
-use Rattle.lists.proofs.Putting.{get_d_after}
+use Rattle.lists.proofs.Putting.{get_or-after}
 
 -- the bytes from a place on, and zeros for those that are no longer used
 abbrev pub later : List ℕ → ℕ → ℕ → List ℕ
@@ -56,7 +56,7 @@ read_before_written book now used place size i h fits lt q = go (ltb i (used - (
     go true e =
         let more = ltb-true i (used - (place + size)) e in
         later_at now used h' (place + size) i more ∙ ap (λ (l : List ℕ). get_or l (place + size + i) 0) q.so_far
-        ∙ get_d_after (λ x y. y) place (place + size + i) book (take i (moved book used place size))
+        ∙ get_or-after (λ x y. y) place (place + size + i) book (take i (moved book used place size))
         (omega (arith, length-take-le i (moved book used place size) (omega (arith, q.whole))))
         ∙ sym (moved_at book used h place size i fits more)
     go false e =

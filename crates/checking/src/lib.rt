@@ -1,4 +1,5 @@
 // The check of a stored key.
+#![tactic(auto)]
 ghost use Rattle.std.specs.Prelude.{◌≡◌, length};
 ghost use Rattle.input.specs.Input.{input};
 ghost use Rattle.derivation.specs.Answers.{flag};
@@ -13,7 +14,7 @@ use room_refusals::plain_refusal;
 use settings::{Lengths, Parameters};
 
 // What a check answers.
-#[derive(Drop)]
+#[derive(Clone, Copy)]
 pub struct Checked {
     pub costs: Costs,
     pub same: bool,

@@ -1,7 +1,8 @@
 // What the choice of costs is given and what it answers; the choice itself is defined in specs/. There is no function here.
+#![tactic(auto)]
 
 // What a planner allows: W words of a matrix, B rounds spent, with ρ rounds in a reduced call, and N column counts to try.
-#[derive(Drop)]
+#[derive(Clone, Copy)]
 pub struct Limits {
     pub words: usize,
     pub budget: u64,
@@ -10,14 +11,14 @@ pub struct Limits {
 }
 
 // R and C.
-#[derive(Drop)]
+#[derive(Clone, Copy)]
 pub struct Shape {
     pub rows: usize,
     pub columns: usize,
 }
 
 // 0 or the number of a refusal; T, R and C; and how many cells more any other triple that fits may have.
-#[derive(Drop)]
+#[derive(Clone, Copy)]
 pub struct Choice {
     pub refusal: u32,
     pub time: usize,

@@ -1,4 +1,5 @@
 // When a choice of costs is turned down.
+#![tactic(auto)]
 ghost use Rattle.std.specs.Prelude.{◌≡◌};
 ghost use Rattle.choice.specs.Choice.{choice_number};
 

@@ -1,12 +1,13 @@
 // The rows and columns that one column of Setup or of a visit works on, and where those rows start; what it does is defined in
 // specs/.
+#![tactic(auto)]
 ghost use Rattle.std.specs.Prelude.{◌≡◌, ◌^◌};
 ghost use Rattle.columns.specs.Bounds.{starts_of, Within};
 
 use places::{Column, Row, RowStart};
 
 // The rows of a Setup step or of a visit, and those of the one before it.
-#[derive(Drop)]
+#[derive(Clone, Copy)]
 pub struct Rows {
     pub row0: Row,
     pub row1: Row,
@@ -15,7 +16,7 @@ pub struct Rows {
 }
 
 // Where they start, found once before the loop over the columns.
-#[derive(Drop)]
+#[derive(Clone, Copy)]
 pub struct Starts {
     pub row0: RowStart,
     pub row1: RowStart,
@@ -42,7 +43,7 @@ impl Starts {
 }
 
 // The columns of the previous rows that a visit picks.
-#[derive(Drop)]
+#[derive(Clone, Copy)]
 pub struct Picks {
     pub col0: Column,
     pub col1: Column,

@@ -1,6 +1,7 @@
 // The operations under C names. Each hands on to the proved one and takes its answer apart: the result is 0 or the number of a
 // refusal, and the answer's other fields are stored, zeros where the call was refused. A refusal leaves key, matrix and record as
 // they were.
+#![tactic(auto)]
 ghost use Rattle.std.specs.Prelude.{◌≡◌, false, [], ◌∷◌, length, drop};
 ghost use Rattle.profile.specs.Profile.{usual_rotation};
 ghost use Rattle.packing.specs.Packing.{low_of, high_of};

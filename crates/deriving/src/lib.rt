@@ -1,4 +1,5 @@
 // The plain derivation.
+#![tactic(auto)]
 ghost use Rattle.std.specs.Prelude.{◌≡◌, length};
 ghost use Rattle.input.specs.Input.{input};
 ghost use Rattle.derivation.specs.Promises.{plain_number, Derived};

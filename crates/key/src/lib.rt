@@ -1,4 +1,5 @@
 // Squeezing the key out of a state, and comparing it with a stored one byte by byte as it comes.
+#![tactic(auto)]
 ghost use Rattle.std.specs.Prelude.{◌≡◌, ◌^◌, ◌<◌, length, get_or};
 ghost use Rattle.std.specs.Int.Bits.{bit_or, bit_xor};
 ghost use Rattle.mixer.specs.Mixers.{sum_of};
@@ -39,7 +40,7 @@ pub fn differing(difference: u8, stored: &[u8], i: usize, byte: u8) -> u8
 }
 
 // Whether a stored key is the key, with the full calls that were made to tell.
-#[derive(Drop)]
+#[derive(Clone, Copy)]
 pub struct Comparison {
     pub same: bool,
     pub calls: u64,

@@ -6,13 +6,13 @@ use native.Mathlib.Nat.{zero-add, suc-add}
 use native.Mathlib.Omega.{arith}
 use mathlib.Core.List.{List}
 use lib.ListN.{length, get_or}
-use Rattle.lists.proofs.ZipLaws.{length-tabulate, get_d_tabulate}
+use Rattle.lists.proofs.ZipLaws.{length-tabulate, get_or-tabulate}
 use Rattle.little_endian.specs.Bytes.{le_bytes, le_each}
-use Rattle.little_endian.proofs.ByteLaws.{get_d_each}
+use Rattle.little_endian.proofs.ByteLaws.{get_or-each}
 use Rattle.permutation.specs.Round.{rounds}
 use Rattle.profile.specs.Profile.{full_rounds}
 use Rattle.sponge.specs.Sponge.{rand}
-use Rattle.sponge.proofs.Output.{length-rand, get_d_rand}
+use Rattle.sponge.proofs.Output.{length-rand, get_or-rand}
 use Rattle.key_bytes.specs.KeyBytes.{full_calls, piece, key_bytes, pieces, calls_between, calls_before, squeezed}
 
 -- byte i of a piece, from word i / 8
@@ -20,8 +20,8 @@ pub piece_at : (s : List ℕ) (i x r : ℕ) → i < 96 → x ≡ get_or s (i / 8
 unfolding piece
 piece_at s i x r h ex er =
     let split : 8 * (i / 8) + i % 8 ≡ i = omega arith in
-    rw (ex, er, ← get_d_rand s (i / 8) (omega arith))
-    (sym (get_d_each 8 (rand s) (i / 8) (i % 8) (omega (arith, length-rand s)) (omega arith))
+    rw (ex, er, ← get_or-rand s (i / 8) (omega arith))
+    (sym (get_or-each 8 (rand s) (i / 8) (i % 8) (omega (arith, length-rand s)) (omega arith))
     ∙ ap (λ (k : ℕ). get_or (le_each 8 (rand s)) k 0) split)
 
 pub length_key : (sum : ℕ → ℕ → ℕ) (n : ℕ) (s : List ℕ) → length (key_bytes sum n s) ≡ n
@@ -81,4 +81,4 @@ module _ (sum : ℕ → ℕ → ℕ) where
     squeezed_byte n b h e =
         let calls_made : calls_between (i + 1) ≡ i / 96 = omega arith in
         e ∙ ap (λ (u : List ℕ). get_or (piece u) (i % 96) 0) (next_state ∙ ap (λ (k : ℕ). full_calls sum k s₀) calls_made)
-        ∙ sym (get_d_tabulate n _ i h)
+        ∙ sym (get_or-tabulate n _ i h)

@@ -1,4 +1,5 @@
 // The bytes of the key, one after another out of a state.
+#![tactic(auto)]
 ghost use Rattle.std.specs.Prelude.{◌≡◌, ◌%◌, ◌<◌, get_or};
 ghost use Rattle.mixer.specs.Mixers.{sum_of};
 ghost use Rattle.key_bytes.specs.KeyBytes.{piece_bytes, full_calls, piece, calls_before};
@@ -35,7 +36,7 @@ fn output_byte(s: &[u64; 16], i: usize) -> u8
 }
 
 // A byte of the key, with the full calls that were made for it.
-#[derive(Drop)]
+#[derive(Clone, Copy)]
 pub struct Next {
     pub byte: u8,
     pub calls: u64,

@@ -11,7 +11,7 @@ use lib.Seq.{get_or-set_same, get_or-set_other}
 use lib.Bits.{bit_xor}
 use Rattle.lists.specs.Loop.{loop}
 use Rattle.lists.proofs.LoopLaws.{loop_more, loop_same}
-use Rattle.lists.proofs.ZipLaws.{length_zip, get_d_zip}
+use Rattle.lists.proofs.ZipLaws.{length_zip, get_or-zip}
 use Rattle.key.specs.Key.{key_bytes, full_calls, squeezed, piece, pieces, calls_between, calls_before}
 use Rattle.key_bytes.proofs.KeyLaws.{Squeezed, length_key, squeezed_none, squeezed_more, squeezed_byte}
 use Rattle.lane_keys.specs.LaneKeys.{arrives, keys_xored}
@@ -37,7 +37,7 @@ module _ (sum : ℕ → ℕ → ℕ) (n : ℕ) (states : List (List ℕ)) where
   unfolding loop arrives
   byte_loop zero i lt = get_or-replicate n i 0 0 lt
   byte_loop (suc p) i lt =
-      get_d_zip bit_xor _ _ i (omega (arith, length-loop p)) (omega (arith, length_key sum n (get_or states p [])))
+      get_or-zip bit_xor _ _ i (omega (arith, length-loop p)) (omega (arith, length_key sum n (get_or states p [])))
       ∙ ap (λ (b : ℕ). bit_xor b (get_or (key_bytes sum n (get_or states p [])) i 0)) (byte_loop p i lt)
 
   pub keys_byte : (p i : ℕ) → i < n → get_or (keys_xored sum p n states) i 0 ≡ xored (λ j. get_or (key_bytes sum n (get_or states j [])) i 0) p

@@ -6,7 +6,7 @@ use native.Mathlib.Omega.{arith}
 use mathlib.Core.List.{List}
 use lib.ListN.{length, length-set, length-replicate}
 use Rattle.lists.proofs.LoopLaws.{loop_keeps}
-use Rattle.lists.proofs.ZipLaws.{length-tabulate, get_d_tabulate}
+use Rattle.lists.proofs.ZipLaws.{length-tabulate, get_or-tabulate}
 use Rattle.profile.specs.Profile.{start}
 use Rattle.settings.specs.Settings.{Settings, settings, usual}
 use Rattle.settings.specs.declared.StoredParameters.{StoredParameters}
@@ -46,7 +46,7 @@ begins_good S p x m least =
     record {
       states = omega (arith, setup_many S p n (works (input_states S p x) m), inputs_many S p x);
       prevs = omega (arith, length-tabulate p last);
-      own = λ i lt. rw (get_d_tabulate p last i lt) (omega arith, omega arith);
+      own = λ i lt. rw (get_or-tabulate p last i lt) (omega arith, omega arith);
     }
 
 -- ---- any orders

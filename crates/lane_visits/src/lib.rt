@@ -1,4 +1,5 @@
 // The visits of one lane.
+#![tactic(auto)]
 ghost use Rattle.std.specs.Prelude.{◌≡◌, ◌*◌, ◌+◌, ◌/◌, ◌%◌, ◌<◌, ◌≤◌, ◌^◌, length};
 ghost use Rattle.settings.specs.Settings.{settings};
 ghost use Rattle.columns.specs.Bounds.{starts_of, Within};
@@ -57,7 +58,7 @@ fn pick_rows(s: &[u64; 16], prev0: usize, lanes: Shape, t: usize, i: usize, p: P
 }
 
 // What visits of a lane leave: the row that was visited last, and the reduced calls that were made.
-#[derive(Drop)]
+#[derive(Clone, Copy)]
 pub struct LaneVisited {
     pub row0: usize,
     pub calls: u64,

@@ -1,4 +1,5 @@
 // The visits of all lanes. Between two meetings the lanes run in turn.
+#![tactic(auto)]
 ghost use Rattle.std.specs.Prelude.{◌≡◌, ◌*◌, ◌<◌, ◌≤◌, ◌^◌, length};
 ghost use Rattle.settings.specs.Settings.{settings};
 ghost use Rattle.lanes.specs.Lanes.{works};

@@ -1,8 +1,9 @@
 // Several sponges over one matrix: what they do is defined in specs/.
+#![tactic(auto)]
 ghost use Rattle.std.specs.Prelude.{◌≡◌, min};
 
 // How many lanes there are, and the rows that each has.
-#[derive(Drop)]
+#[derive(Clone, Copy)]
 pub struct Shape {
     pub lanes: usize,
     pub rows: usize,

@@ -6,7 +6,7 @@ use native.Mathlib.Decide.{dec_lt}
 use native.Mathlib.Omega.{arith}
 use lib.ListN.{get_or-eq_default}
 use Rattle.lists.specs.Zip.{tabulate}
-use Rattle.lists.proofs.ZipLaws.{length-tabulate, get_d_tabulate}
+use Rattle.lists.proofs.ZipLaws.{length-tabulate, get_or-tabulate}
 use Rattle.settings.specs.declared.Lengths.{Lengths}
 use Rattle.padded_input.specs.Padded.{blocks}
 use Rattle.columns.proofs.RowLaws.{row_before}
@@ -28,6 +28,6 @@ lanes_reduced p n R C T all =
 pub last_below : (p n : ℕ) → 1 ≤ p → 1 ≤ n → Below (p * n) (tabulate p (λ i. i * n + (n - 1)))
 last_below p n pos least i =
     elim (dec_lt i p) [
-      | yes lt ↦ rw (get_d_tabulate p (λ j. j * n + (n - 1)) i lt) (omega (arith, row_before i p n lt))
+      | yes lt ↦ rw (get_or-tabulate p (λ j. j * n + (n - 1)) i lt) (omega (arith, row_before i p n lt))
       | no past ↦ rw (get_or-eq_default (tabulate p (λ j. j * n + (n - 1))) 0 {n = i} (omega (arith, length-tabulate p (λ j. j * n + (n - 1))))) (omega (arith, row_before 0 p n pos))
     ]

@@ -1,7 +1,8 @@
 // What the login line's operations answer.
+#![tactic(auto)]
 
 // Reading: T, R and C, and the lengths of salt and key; zeros beside the number of a refusal.
-#[derive(Drop)]
+#[derive(Clone, Copy)]
 pub struct LineValues {
     pub refusal: u32,
     pub time: usize,
@@ -12,7 +13,7 @@ pub struct LineValues {
 }
 
 // Writing: the line's length, zero beside the number of a refusal.
-#[derive(Drop)]
+#[derive(Clone, Copy)]
 pub struct LineLength {
     pub refusal: u32,
     pub length: usize,

@@ -1,4 +1,5 @@
 // The marks of a login line, and where its texts end.
+#![tactic(auto)]
 ghost use Rattle.std.specs.Prelude.{◌≡◌, ◌+◌, ◌≤◌, length};
 ghost use Rattle.text.specs.Text.{stands_at};
 ghost use Rattle.line_form.specs.Line.{start_mark, end_at};
@@ -32,7 +33,7 @@ fn end_at(line: &[u8], at: usize, byte: u8) -> usize
 }
 
 // The end of a text, and whether the next mark stands there.
-#[derive(Drop)]
+#[derive(Clone, Copy)]
 pub struct End {
     pub marked: bool,
     pub at: usize,
@@ -59,7 +60,7 @@ fn next_end(line: &[u8], before: End, bytes: usize, byte: u8, mark: &[u8]) -> En
     End { marked, at }
 }
 
-#[derive(Drop)]
+#[derive(Clone, Copy)]
 pub struct Ends {
     pub marked: bool,
     pub time: usize,

@@ -29,10 +29,10 @@ module _ {A : Type 0} where
   drop-take (suc a) n (x ∷ l) = rw (suc-add a n) (drop-take a n l)
 
   -- inside a list it does not matter what is read past its end
-  pub get_d_inside : (l : List A) (i : ℕ) (d e : A) → i < length l → get_or l i d ≡ get_or l i e
-  get_d_inside [] i d e h = absurd (not-suc-le-zero h)
-  get_d_inside (x ∷ l) zero d e h = refl
-  get_d_inside (x ∷ l) (suc i) d e h = get_d_inside l i d e (le_of_suc-le-suc h)
+  pub get_or-inside : (l : List A) (i : ℕ) (d e : A) → i < length l → get_or l i d ≡ get_or l i e
+  get_or-inside [] i d e h = absurd (not-suc-le-zero h)
+  get_or-inside (x ∷ l) zero d e h = refl
+  get_or-inside (x ∷ l) (suc i) d e h = get_or-inside l i d e (le_of_suc-le-suc h)
 
   -- ---- n pieces of w elements
 

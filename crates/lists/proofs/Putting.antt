@@ -42,8 +42,8 @@ drop-replicate (suc n) zero a = let same : 0 ≡ 0 - suc n = omega arith in ap (
 drop-replicate (suc n) (suc m) a = let same : m - n ≡ suc m - suc n = omega arith in drop-replicate n m a ∙ ap (λ (k : ℕ). replicate k a) same
 
 -- an element behind the changed places
-pub get_d_after : (f : ℕ → ℕ → ℕ) (a k : ℕ) (xs ys : List ℕ) → a + length ys ≤ k → get_or (zip_at f a xs ys) k 0 ≡ get_or xs k 0
-get_d_after f a k xs ys h = sym (one (zip_at f a xs ys)) ∙ ap (λ (l : List ℕ). get_or l 0 0) (part_after f a k 1 xs ys h) ∙ one xs
+pub get_or-after : (f : ℕ → ℕ → ℕ) (a k : ℕ) (xs ys : List ℕ) → a + length ys ≤ k → get_or (zip_at f a xs ys) k 0 ≡ get_or xs k 0
+get_or-after f a k xs ys h = sym (one (zip_at f a xs ys)) ∙ ap (λ (l : List ℕ). get_or l 0 0) (part_after f a k 1 xs ys h) ∙ one xs
   where
     one : (l : List ℕ) → get_or (take 1 (drop k l)) 0 0 ≡ get_or l k 0
     one l = get_or-take 1 (drop k l) 0 0 (omega arith) ∙ get_or-drop k l 0 0 ∙ (let same : k + 0 ≡ k = omega arith in ap (λ (n : ℕ). get_or l n 0) same)

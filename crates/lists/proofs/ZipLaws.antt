@@ -22,12 +22,12 @@ module _ (f : ℕ → ℕ → ℕ) where
   length_zip (x ∷ xs) [] = refl
   length_zip (x ∷ xs) (y ∷ ys) = ap suc (length_zip xs ys)
 
-  pub get_d_zip : (xs ys : List ℕ) (j : ℕ) → j < length xs → j < length ys → get_or (zip_into f xs ys) j 0 ≡ f (get_or xs j 0) (get_or ys j 0)
+  pub get_or-zip : (xs ys : List ℕ) (j : ℕ) → j < length xs → j < length ys → get_or (zip_into f xs ys) j 0 ≡ f (get_or xs j 0) (get_or ys j 0)
   unfolding zip_into
-  get_d_zip [] ys j hx hy = absurd (not-suc-le-zero hx)
-  get_d_zip (x ∷ xs) [] j hx hy = absurd (not-suc-le-zero hy)
-  get_d_zip (x ∷ xs) (y ∷ ys) zero hx hy = refl
-  get_d_zip (x ∷ xs) (y ∷ ys) (suc j) hx hy = get_d_zip xs ys j (le_of_suc-le-suc hx) (le_of_suc-le-suc hy)
+  get_or-zip [] ys j hx hy = absurd (not-suc-le-zero hx)
+  get_or-zip (x ∷ xs) [] j hx hy = absurd (not-suc-le-zero hy)
+  get_or-zip (x ∷ xs) (y ∷ ys) zero hx hy = refl
+  get_or-zip (x ∷ xs) (y ∷ ys) (suc j) hx hy = get_or-zip xs ys j (le_of_suc-le-suc hx) (le_of_suc-le-suc hy)
 
   -- one place more, as a loop that stores in place makes it
   zip_more : (xs ys : List ℕ) (j : ℕ) → j < length ys
@@ -58,11 +58,11 @@ unfolding tabulate
 length-tabulate zero f = refl
 length-tabulate (suc n) f = ap suc (length-tabulate n (λ i. f (suc i)))
 
-pub get_d_tabulate : (n : ℕ) (f : ℕ → ℕ) (j : ℕ) → j < n → get_or (tabulate n f) j 0 ≡ f j
+pub get_or-tabulate : (n : ℕ) (f : ℕ → ℕ) (j : ℕ) → j < n → get_or (tabulate n f) j 0 ≡ f j
 unfolding tabulate
-get_d_tabulate zero f j h = absurd (not-suc-le-zero h)
-get_d_tabulate (suc n) f zero h = refl
-get_d_tabulate (suc n) f (suc j) h = get_d_tabulate n (λ i. f (suc i)) j (le_of_suc-le-suc h)
+get_or-tabulate zero f j h = absurd (not-suc-le-zero h)
+get_or-tabulate (suc n) f zero h = refl
+get_or-tabulate (suc n) f (suc j) h = get_or-tabulate n (λ i. f (suc i)) j (le_of_suc-le-suc h)
 
 -- ---- words in, words out
 

@@ -9,7 +9,7 @@ use lib.ListN.{length, get_or, take, drop, length-append, length-take, length-dr
 use lib.Seq.{get_or-take, get_or-drop, get_or-append-add, drop-cons}
 use lib.Pow.{pow-add, pow_mono, shr-shr}
 use lib.Arith.{digits_lt, digits_div, digits_mod}
-use Rattle.lists.proofs.ZipLaws.{length-tabulate, get_d_tabulate, tabulate-words}
+use Rattle.lists.proofs.ZipLaws.{length-tabulate, get_or-tabulate, tabulate-words}
 use Rattle.lists.proofs.Parts.{append_inj, pieces_same}
 use Rattle.little_endian.specs.Bytes.{le_value, le_bytes, le_each, le_words}
 
@@ -25,12 +25,12 @@ value_lt (b ∷ bs) h =
     (sym (pow-add 2 (8 * length bs) 8) ∙ ap (λ (e : ℕ). 2 ^ e) (omega arith))
     (digits_lt (value_lt bs (λ i. h (suc i))) (h zero))
 
-pub get_d_bytes : (n x k : ℕ) → k < n → get_or (le_bytes n x) k 0 ≡ x / 2 ^ (8 * k) % 256
+pub get_or-bytes : (n x k : ℕ) → k < n → get_or (le_bytes n x) k 0 ≡ x / 2 ^ (8 * k) % 256
 unfolding le_bytes
-get_d_bytes zero x k h = absurd (not-suc-le-zero h)
-get_d_bytes (suc n) x zero h = omega arith
-get_d_bytes (suc n) x (suc k) h =
-    get_d_bytes n (x / 256) k (le_of_suc-le-suc h)
+get_or-bytes zero x k h = absurd (not-suc-le-zero h)
+get_or-bytes (suc n) x zero h = omega arith
+get_or-bytes (suc n) x (suc k) h =
+    get_or-bytes n (x / 256) k (le_of_suc-le-suc h)
     ∙ ap (λ (y : ℕ). y % 256) (shr-shr x 8 (8 * k) ∙ ap (λ (e : ℕ). x / 2 ^ e) (omega arith))
 
 pub length_bytes : (n x : ℕ) → length (le_bytes n x) ≡ n
@@ -40,7 +40,7 @@ length_bytes (suc n) x = ap suc (length_bytes n (x / 256))
 
 -- a byte does not depend on how many are taken
 pub byte_width : (m n x k : ℕ) → k < m → k < n → get_or (le_bytes m x) k 0 ≡ get_or (le_bytes n x) k 0
-byte_width m n x k hm hn = get_d_bytes m x k hm ∙ sym (get_d_bytes n x k hn)
+byte_width m n x k hm hn = get_or-bytes m x k hm ∙ sym (get_or-bytes n x k hn)
 
 pub length_each : (n : ℕ) (xs : List ℕ) → length (le_each n xs) ≡ n * length xs
 unfolding le_each
@@ -48,18 +48,18 @@ length_each n [] = sym (mul-zero n)
 length_each n (x ∷ xs) = omega (arith, length-append (le_bytes n x) (le_each n xs), length_bytes n x, length_each n xs, mul-suc n (length xs))
 
 -- byte r of number q
-pub get_d_each : (n : ℕ) (xs : List ℕ) (q r : ℕ) → q < length xs → r < n → get_or (le_each n xs) (n * q + r) 0 ≡ get_or (le_bytes n (get_or xs q 0)) r 0
+pub get_or-each : (n : ℕ) (xs : List ℕ) (q r : ℕ) → q < length xs → r < n → get_or (le_each n xs) (n * q + r) 0 ≡ get_or (le_bytes n (get_or xs q 0)) r 0
 unfolding le_each
-get_d_each n [] q r hq hr = absurd (not-suc-le-zero hq)
-get_d_each n (x ∷ xs) zero r hq hr =
+get_or-each n [] q r hq hr = absurd (not-suc-le-zero hq)
+get_or-each n (x ∷ xs) zero r hq hr =
     let here : n * zero + r ≡ r = omega (arith, mul-zero n) in
     ap (λ (k : ℕ). get_or (le_bytes n x ++ le_each n xs) k 0) here
     ∙ get_or-append (le_bytes n x) (le_each n xs) 0 r (omega (arith, length_bytes n x))
-get_d_each n (x ∷ xs) (suc q) r hq hr =
+get_or-each n (x ∷ xs) (suc q) r hq hr =
     let next : n * suc q + r ≡ length (le_bytes n x) + (n * q + r) = omega (arith, mul-suc n q, length_bytes n x) in
     ap (λ (k : ℕ). get_or (le_bytes n x ++ le_each n xs) k 0) next
     ∙ get_or-append-add (le_bytes n x) (le_each n xs) (n * q + r) 0
-    ∙ get_d_each n xs q r (le_of_suc-le-suc hq) hr
+    ∙ get_or-each n xs q r (le_of_suc-le-suc hq) hr
 
 pub append_bytes : (a b : List ℕ) → AllBytes a → AllBytes b → AllBytes (a ++ b)
 append_bytes [] b ha hb i = hb i
@@ -145,9 +145,9 @@ pub length-words : (n : ℕ) (bytes : List ℕ) → length (le_words n bytes) �
 unfolding le_words
 length-words n bytes = length-tabulate n _
 
-pub get_d_words : (n : ℕ) (bytes : List ℕ) (i : ℕ) → i < n → get_or (le_words n bytes) i 0 ≡ le_value (take 8 (drop (8 * i) bytes))
+pub get_or-words : (n : ℕ) (bytes : List ℕ) (i : ℕ) → i < n → get_or (le_words n bytes) i 0 ≡ le_value (take 8 (drop (8 * i) bytes))
 unfolding le_words
-get_d_words n bytes i h = get_d_tabulate n _ i h
+get_or-words n bytes i h = get_or-tabulate n _ i h
 
 -- words below 2^64
 pub words_fit : (n : ℕ) (bytes : List ℕ) → AllBytes bytes → (i : ℕ) → get_or (le_words n bytes) i 0 < 2 ^ 64
@@ -180,7 +180,7 @@ words_inj n l m hl hm fl fm e =
     (λ i lt.
     value_inj _ _ (take_bytes 8 (drop (8 * i) l) (drop_bytes (8 * i) l hl)) (take_bytes 8 (drop (8 * i) m) (drop_bytes (8 * i) m hm))
     (simp (length-take, length-drop) (omega arith))
-    (sym (get_d_words n l i lt) ∙ ap (λ (words : List ℕ). get_or words i 0) e ∙ get_d_words n m i lt))
+    (sym (get_or-words n l i lt) ∙ ap (λ (words : List ℕ). get_or words i 0) e ∙ get_or-words n m i lt))
 
 -- the bytes of each number of a list
 pub each_inj : (n : ℕ) (xs ys : List ℕ) → length xs ≡ length ys → le_each n xs ≡ le_each n ys
@@ -189,6 +189,8 @@ unfolding le_each
 each_inj n [] [] len e i = refl
 each_inj n [] (y ∷ ys) len e i = absurd (omega arith)
 each_inj n (x ∷ xs) [] len e i = absurd (omega arith)
-each_inj n (x ∷ xs) (y ∷ ys) len e i =
-    let parts = append_inj (le_bytes n x) (le_bytes n y) (le_each n xs) (le_each n ys) (length_bytes n x ∙ sym (length_bytes n y)) e in
-    elim i [ zero ↦ parts.0 | suc j ↦ each_inj n xs ys (suc_inj len) parts.1 j ]
+each_inj n (x ∷ xs) (y ∷ ys) len e zero =
+    (append_inj (le_bytes n x) (le_bytes n y) (le_each n xs) (le_each n ys) (length_bytes n x ∙ sym (length_bytes n y)) e).0
+each_inj n (x ∷ xs) (y ∷ ys) len e (suc j) =
+    each_inj n xs ys (suc_inj len)
+    (append_inj (le_bytes n x) (le_bytes n y) (le_each n xs) (le_each n ys) (length_bytes n x ∙ sym (length_bytes n y)) e).1 j

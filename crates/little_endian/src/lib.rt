@@ -1,4 +1,6 @@
 // Words as bytes, the lowest byte first.
+#![tactic(auto)]
+
 ghost use Rattle.std.specs.Prelude.{◌≡◌, ◌+◌, ◌*◌, ◌≤◌, ◌<◌, length, take, drop, get_or};
 ghost use Rattle.little_endian.specs.Bytes.{le_value, le_bytes, le_words};
 

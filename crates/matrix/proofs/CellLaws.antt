@@ -9,20 +9,20 @@ use lib.ListN.{length, get_or, take, drop, length-take, length-drop}
 use lib.Bits.{bit_xor, xor_comm}
 use Rattle.lists.specs.Zip.{zip_at, xor_into, tabulate}
 use Rattle.lists.proofs.Words.{AllWords}
-use Rattle.lists.proofs.ZipLaws.{length_zip, length-tabulate, get_d_tabulate, tabulate-words, put_zip}
+use Rattle.lists.proofs.ZipLaws.{length_zip, length-tabulate, get_or-tabulate, tabulate-words, put_zip}
 use Rattle.lists.proofs.Parts.{part_before, part_after, apart_swap, zip_at_swap}
 use Rattle.mixer.proofs.WordLaws.{xor_assoc}
 use Rattle.rate.specs.Rate.{rand}
-use Rattle.rate.proofs.Words.{get_d_rand}
+use Rattle.rate.proofs.Words.{get_or-rand}
 use Rattle.matrix.specs.Cells.{cell_from, ApartCells, rotated}
 
 pub length-rotated : (ω : ℕ) (words : List ℕ) → length (rotated ω words) ≡ 12
 unfolding rotated
 length-rotated ω words = length-tabulate 12 (λ j. get_or words ((j + ω) % 12) 0)
 
-pub get_d_rotated : (ω : ℕ) (words : List ℕ) (j : ℕ) → j < 12 → get_or (rotated ω words) j 0 ≡ get_or words ((j + ω) % 12) 0
+pub get_or-rotated : (ω : ℕ) (words : List ℕ) (j : ℕ) → j < 12 → get_or (rotated ω words) j 0 ≡ get_or words ((j + ω) % 12) 0
 unfolding rotated
-get_d_rotated ω words j h = get_d_tabulate 12 (λ k. get_or words ((k + ω) % 12) 0) j h
+get_or-rotated ω words j h = get_or-tabulate 12 (λ k. get_or words ((k + ω) % 12) 0) j h
 
 pub rotated-words : (ω : ℕ) (words : List ℕ) → AllWords words → AllWords (rotated ω words)
 unfolding rotated
@@ -35,7 +35,7 @@ unfolding rotated
 rotated_state ω s =
     let around : (j : ℕ) → (j + ω % 12) % 12 ≡ (j + ω) % 12 = λ j. omega arith in
     let inside : (j : ℕ) → (j + ω) % 12 < 12 = λ j. omega arith in
-    let word : (j : ℕ) → get_or s ((j + ω % 12) % 12) 0 ≡ get_or (rand s) ((j + ω) % 12) 0 = λ j. ap (λ (k : ℕ). get_or s k 0) (around j) ∙ sym (get_d_rand s ((j + ω) % 12) (inside j)) in
+    let word : (j : ℕ) → get_or s ((j + ω % 12) % 12) 0 ≡ get_or (rand s) ((j + ω) % 12) 0 = λ j. ap (λ (k : ℕ). get_or s k 0) (around j) ∙ sym (get_or-rand s ((j + ω) % 12) (inside j)) in
     λ i. tabulate 12 (λ j. word j i)
 
 module _ (a : ℕ) (m : List ℕ) (fits : a + 12 ≤ length m) where

@@ -1,11 +1,13 @@
 // BLAKE2b's mixing function G, without message words, with the addition of either mixer.
+#![tactic(auto)]
+
 ghost use Rattle.std.specs.Prelude.{◌≡◌, ◌%◌, ◌^◌, ◌<◌};
 ghost use Rattle.mixer.specs.Word.{turn_right};
 ghost use Rattle.mixer.specs.Mixers.{doubled_product, sum_of, mixer_of};
 ghost use Rattle.mixer.specs.G.{half_g, G};
 
 // Which addition G takes: the sum of two words, or BlaMka's, which adds the doubled product of their low halves.
-#[derive(Drop)]
+#[derive(Clone, Copy)]
 pub enum Mixer {
     Plain,
     BlaMka,
@@ -24,7 +26,7 @@ impl Mixer {
 }
 
 // The four words that G works on.
-#[derive(Drop)]
+#[derive(Clone, Copy)]
 pub struct Words {
     pub a: u64,
     pub b: u64,

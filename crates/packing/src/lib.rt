@@ -1,4 +1,6 @@
 // The words of the visit record: each holds two rows or two columns.
+#![tactic(auto)]
+
 ghost use Rattle.std.specs.Prelude.{◌≡◌, ◌<◌, set};
 ghost use Rattle.packing.specs.Packing.{pair_factor, packed, low_of, high_of};
 
@@ -13,7 +15,7 @@ pub fn note(record: &mut [u64], at: usize, low: usize, high: usize)
 }
 
 // The two numbers of a word.
-#[derive(Drop)]
+#[derive(Clone, Copy)]
 pub struct Pair {
     pub low: usize,
     pub high: usize,

@@ -11,10 +11,10 @@ use lib.ListN.{length, get_or, replicate, length-append, get_or-append, get_or-e
 use lib.Seq.{get_or-append-add}
 use borrow.Author.Tests.{eq-eqb, ne_eqb}
 use Rattle.lists.specs.Zip.{tabulate}
-use Rattle.lists.proofs.ZipLaws.{length-tabulate, get_d_tabulate}
+use Rattle.lists.proofs.ZipLaws.{length-tabulate, get_or-tabulate}
 use Rattle.lists.proofs.Parts.{append_inj}
 use Rattle.little_endian.specs.Bytes.{le_bytes, le_each}
-use Rattle.little_endian.proofs.ByteLaws.{AllBytes, append_bytes, each_bytes, byte_width, length_each, get_d_each, bytes_inj, each_inj}
+use Rattle.little_endian.proofs.ByteLaws.{AllBytes, append_bytes, each_bytes, byte_width, length_each, get_or-each, bytes_inj, each_inj}
 use Rattle.padded_input.specs.Padded.{unpadded, padding, missing, padded, blocks}
 
 -- ---- the padding
@@ -33,7 +33,7 @@ padding_byte_lem : (n i : ℕ) → 0 < n → first i + last n i ≡ get_or (padd
 unfolding padding
 padding_byte_lem n i h =
     elim (dec_lt i n) [
-      | yes within ↦ sym (get_d_tabulate n _ i within)
+      | yes within ↦ sym (get_or-tabulate n _ i within)
       | no past ↦
           rw (ne_eqb i 0 (λ e. omega arith), ne_eqb (suc i) n (λ e. omega arith))
           (sym (get_or-eq_default (padding n) 0 (omega (arith, length-padding n))))
@@ -118,7 +118,7 @@ module _ (password salt ns : List ℕ) (i : ℕ) where
       → get_or (le_bytes 8 (get_or ns q 0)) r 0 ≡ get_or (padded password salt ns) i 0
   number_at_lem q r e hq hr =
       rw padded_parts
-      (byte_width 8 4 _ r (omega arith) hr ∙ sym (get_d_each 4 ns q r hq hr)
+      (byte_width 8 4 _ r (omega arith) hr ∙ sym (get_or-each 4 ns q r hq hr)
       ∙ after password _ i (length salt + (4 * q + r)) _ (omega arith)
       (after salt _ _ (4 * q + r) _ refl (within (le_each 4 ns) _ _ (omega (arith, length_each 4 ns)))))
 

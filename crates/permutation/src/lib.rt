@@ -1,4 +1,5 @@
 // The permutation: rounds of G over the state, without message words, with plain sums.
+#![tactic(auto)]
 ghost use Rattle.std.specs.Prelude.{◌≡◌};
 ghost use Rattle.mixer.specs.G.{G};
 ghost use Rattle.mixer.specs.Word.{plain_sum};

@@ -1,5 +1,7 @@
 // Prints a full call of the permutation, a word to a line in hexadecimal: of the state that standard
 // input holds as sixteen little-endian words or, where the input is empty, of the starting state.
+#![tactic(auto)]
+
 use mixer::Mixer;
 use profile::Profile;
 

@@ -1,18 +1,19 @@
 // Rows and columns of the lent matrix, and the words where rows and cells start.
+#![tactic(auto)]
 ghost use Rattle.std.specs.Prelude.{◌≡◌, ◌<◌, ◌^◌};
 ghost use Rattle.places.specs.Places.{row_start, first_word, cell_start};
 
 use profile::Profile;
 
 // Rows and columns count different things; neither can be given where the other belongs.
-#[derive(Drop)]
+#[derive(Clone, Copy)]
 pub struct Row(pub usize);
 
-#[derive(Drop)]
+#[derive(Clone, Copy)]
 pub struct Column(pub usize);
 
 // The first word of a row. Its field is not public: `of` alone makes one.
-#[derive(Drop)]
+#[derive(Clone, Copy)]
 pub struct RowStart(usize);
 
 impl RowStart {

@@ -1,4 +1,5 @@
 // A run of the sponge over the matrix for the key alone: no visit is noted down, and nothing is left in the used matrix.
+#![tactic(auto)]
 ghost use Rattle.std.specs.Prelude.{length};
 ghost use Rattle.input.specs.Input.{input, lengths};
 ghost use Rattle.refusals.specs.Checks.{Accepted, plain_checks};
@@ -9,7 +10,7 @@ use runs::{finish, run};
 use settings::Parameters;
 
 // The calls that were made.
-#[derive(Drop)]
+#[derive(Clone, Copy)]
 pub struct Calls {
     pub full: u64,
     pub reduced: u64,

@@ -1,9 +1,10 @@
 // The profile: its fixed numbers, the two tables of document 01 and the starting state.
+#![tactic(auto)]
 ghost use Rattle.std.specs.Prelude.{◌≡◌};
 ghost use Rattle.profile.specs.Profile.{full_rounds, usual_rounds, usual_rotation, block_words, cell_words, quads, start};
 
 // Four positions of the state.
-#[derive(Drop)]
+#[derive(Clone, Copy)]
 pub struct Quad(pub usize, pub usize, pub usize, pub usize);
 
 // The columns of the state as a square of four by four, then its diagonals.
@@ -30,7 +31,7 @@ const STARTING_WORDS: [u64; 8] = [
     0x5be0cd19137e2179,
 ];
 
-#[derive(Drop)]
+#[derive(Clone, Copy)]
 pub struct Profile;
 
 impl Profile {
@@ -47,11 +48,11 @@ impl Profile {
 
     // A promise and no code: the numbers are the specification's.
     fn fixed_numbers()
-        ensures* do_value { do ⌜ (← (⟦Profile::FULL_ROUNDS⟧).entry) ≡ full_rounds ⌝ }
-        ensures* do_value_2 { do ⌜ (← (⟦Profile::USUAL_ROUNDS⟧).entry) ≡ usual_rounds ⌝ }
-        ensures* do_value_3 { do ⌜ (← (⟦Profile::USUAL_ROTATION⟧).entry) ≡ usual_rotation ⌝ }
-        ensures* do_value_4 { do ⌜ (← (⟦Profile::BLOCK_WORDS⟧).entry) ≡ block_words ⌝ }
-        ensures* do_value_5 { do ⌜ (← (⟦Profile::CELL_WORDS⟧).entry) ≡ cell_words ⌝ }
+        ensures full { Self.FULL_ROUNDS ≡ full_rounds }
+        ensures rounds { Self.USUAL_ROUNDS ≡ usual_rounds }
+        ensures rotation { Self.USUAL_ROTATION ≡ usual_rotation }
+        ensures block { Self.BLOCK_WORDS ≡ block_words }
+        ensures cell { Self.CELL_WORDS ≡ cell_words }
     {}
 
     // The positions that a round takes in turn.

@@ -1,4 +1,6 @@
 // The rate of the sponge: the words of the state that take what is absorbed and give the output.
+#![tactic(auto)]
+
 ghost use Rattle.std.specs.Prelude.{◌≡◌, ◌≤◌, length};
 ghost use Rattle.lists.specs.Zip.{xor_into};
 ghost use Rattle.profile.specs.Profile.{state_words};

@@ -1,4 +1,5 @@
 // The recorded derivation: the plain one, with its visits noted down and the state after the last of them.
+#![tactic(auto)]
 ghost use Rattle.std.specs.Prelude.{◌≡◌, length};
 ghost use Rattle.input.specs.Input.{input};
 ghost use Rattle.derivation.specs.Promises.{recorded_number, Recorded as «recorded-contract»};
@@ -12,7 +13,7 @@ use runs::{finish, run};
 use settings::{Lengths, Parameters};
 
 // What the recorded derivation answers: the costs, and the state after the last visit.
-#[derive(Drop)]
+#[derive(Clone, Copy)]
 pub struct Recording {
     pub costs: Costs,
     pub state: [u64; 16],

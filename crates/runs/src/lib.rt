@@ -1,4 +1,5 @@
 // A run of the sponge over the matrix: the input, Setup and the visits, then the last cell.
+#![tactic(auto)]
 ghost use Rattle.std.specs.Prelude.{◌≡◌, ◌+◌, ◌≤◌, ◌<◌, ◌^◌, length};
 ghost use Rattle.settings.specs.Settings.{settings};
 ghost use Rattle.settings.specs.Sizes.{matrix_words};
@@ -18,7 +19,7 @@ use setup::set_up;
 use wandering::wander;
 
 // What a run to the last visit leaves beside the state: the last visit's rows, and the calls that were made.
-#[derive(Drop)]
+#[derive(Clone, Copy)]
 pub struct Ran {
     pub row0: Row,
     pub row1: Row,

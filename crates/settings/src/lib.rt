@@ -1,4 +1,5 @@
 // What a caller gives: T, R, C, ρ, ω and the mixer, and the lengths; and how many words of the matrix are used.
+#![tactic(auto)]
 ghost use Rattle.std.specs.Prelude.{◌≡◌, ◌<◌, ◌^◌};
 ghost use Rattle.settings.specs.Settings.{settings, usual};
 ghost use Rattle.settings.specs.Sizes.{matrix_words};
@@ -7,7 +8,7 @@ use mixer::Mixer;
 use profile::Profile;
 
 // T, R and C; ρ, the rounds of a reduced call; ω, by how many words rot turns a cell; and the mixer.
-#[derive(Drop)]
+#[derive(Clone, Copy)]
 pub struct Parameters {
     pub time: usize,
     pub rows: usize,
@@ -18,7 +19,7 @@ pub struct Parameters {
 }
 
 // T, R and C alone, as they are kept of an operator. The others are then the usual ones.
-#[derive(Drop)]
+#[derive(Clone, Copy)]
 pub struct StoredParameters {
     pub time: usize,
     pub rows: usize,
@@ -41,7 +42,7 @@ impl Parameters {
 }
 
 // In bytes.
-#[derive(Drop)]
+#[derive(Clone, Copy)]
 pub struct Lengths {
     pub key: usize,
     pub password: usize,

@@ -1,4 +1,5 @@
 // Setup: every row of the matrix is written once, and rows before it are revisited.
+#![tactic(auto)]
 ghost use Rattle.std.specs.Prelude.{◌≡◌, ◌+◌, ◌*◌, ◌-◌, ◌≤◌, ◌<◌, ◌^◌, length};
 ghost use Rattle.profile.specs.Profile.{cell_words};
 ghost use Rattle.settings.specs.Settings.{settings};
@@ -105,7 +106,7 @@ fn setup_step(
 }
 
 // What steps of Setup leave behind: the order of the next row, and the count of reduced calls.
-#[derive(Drop)]
+#[derive(Clone, Copy)]
 pub struct SetUp {
     pub order: Order,
     pub calls: u64,

@@ -1,9 +1,11 @@
 // The order in which Setup revisits rows.
+#![tactic(auto)]
+
 ghost use Rattle.std.specs.Prelude.{◌≡◌, cond, ◌+◌, ◌-◌, ◌*◌, ◌<◌, ◌≤◌, ◌^◌};
 ghost use Rattle.setup_order.specs.SetupOrder.{Fits, first_order, new_window, next_order};
 
 // What the order holds at the step that fills a row. The paper's gap is +1 where rising is true and -1 where it is false.
-#[derive(Drop)]
+#[derive(Clone, Copy)]
 pub struct Order {
     pub stp: usize,
     pub wnd: usize,

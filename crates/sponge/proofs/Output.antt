@@ -1,2 +1,2 @@
 -- The words of the output, for the crates above. Assumes nothing.
-pub use Rattle.rate.proofs.Words.{length-rand, get_d_rand, rand-words}
+pub use Rattle.rate.proofs.Words.{length-rand, get_or-rand, rand-words}

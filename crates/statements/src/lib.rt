@@ -1,1 +1,2 @@
 // Statements about the whole base, in specs/ and proofs/; there is no code here.
+#![tactic(auto)]

@@ -1,4 +1,5 @@
 // A visit of Wandering, and a record of what it picked where the caller lends one.
+#![tactic(auto)]
 ghost use Rattle.std.specs.Prelude.{◌≡◌, ◌+◌, ◌<◌, ◌^◌, [], length};
 ghost use Rattle.lists.specs.Zip.{zip_at};
 ghost use Rattle.settings.specs.Settings.{settings};
@@ -57,7 +58,7 @@ fn pick_rows(s: &[u64; 16], prev0: Row, prev1: Row, p: Parameters) -> Rows
 }
 
 // What visits leave: the rows of the last one, and the reduced calls that were made.
-#[derive(Drop)]
+#[derive(Clone, Copy)]
 pub struct Visited {
     pub row0: Row,
     pub row1: Row,

@@ -1,4 +1,5 @@
 // The walk program: reads R from standard input and writes a line for each Setup step to standard output.
+#![tactic(auto)]
 
 fn main() {
     // One byte more than the longest input that is accepted, so that a longer one is seen to be longer.

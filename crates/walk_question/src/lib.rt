@@ -1,4 +1,5 @@
 // The walk question: row1 of a Setup step.
+#![tactic(auto)]
 ghost use Rattle.std.specs.Prelude.{◌≡◌, ◌≤◌};
 ghost use Rattle.setup_order.specs.SetupOrder.{row1_of};
 ghost use Rattle.walk_question.specs.Question.{walk_answer};
@@ -6,7 +7,7 @@ ghost use Rattle.walk_question.specs.Question.{walk_answer};
 use setup_order::Order;
 
 // refusal is 0 where the question is answered.
-#[derive(Drop)]
+#[derive(Clone, Copy)]
 pub struct WalkAnswer {
     pub refusal: u32,
     pub row1: usize,

@@ -5,7 +5,7 @@ use native.Mathlib.Omega.{arith}
 use Rattle.lists.proofs.Placed.{Placed, placed_none, placed_again, placed_end}
 use Rattle.base64_letters.specs.Letters.{letter}
 use Rattle.base64.specs.Base64.{encode}
-use Rattle.base64.proofs.Elements.{length-encode, get_d_encode, sextet_small}
+use Rattle.base64.proofs.Elements.{length-encode, get_or-encode, sextet_small}
 use Rattle.base64.proofs.append_encoded.Statement.{statement}
 use Rattle.base64.proofs.append_encoded.Tie as tie
 
@@ -17,7 +17,7 @@ append-encoded-spec =
     (omega arith) (λ c κs. rw c.sextet.ensures (sextet_small _ _)) (omega arith) (omega arith) (omega arith) (omega arith)
     (λ c.
     placed_again (λ x y. y) c.before.before.before.loop.invariant (omega arith) refl
-    (c.letter.ensures ∙ ap letter c.before.sextet.ensures ∙ sym (get_d_encode _ _ (omega arith))))
+    (c.letter.ensures ∙ ap letter c.before.sextet.ensures ∙ sym (get_or-encode _ _ (omega arith))))
     (omega arith) (omega arith)
     (λ c.
     let inv = c.before.loop.invariant in

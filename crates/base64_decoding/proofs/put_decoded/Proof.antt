@@ -5,7 +5,7 @@ use native.Mathlib.Omega.{arith}
 use Rattle.lists.specs.Zip.{zip_at}
 use Rattle.lists.proofs.Placed.{Placed, placed_none, placed_again, placed_end}
 use Rattle.base64.specs.Base64.{decode}
-use Rattle.base64.proofs.Elements.{length-decode, get_d_decode}
+use Rattle.base64.proofs.Elements.{length-decode, get_or-decode}
 use Rattle.base64_decoding.proofs.put_decoded.Statement.{statement}
 use Rattle.base64_decoding.proofs.put_decoded.Tie as tie
 
@@ -17,6 +17,6 @@ put-decoded-spec =
     (λ c. placed_none (λ x y. y) (length-decode _ ∙ sym c.decoded-length.ensures)) (omega arith) (omega arith) (omega arith) (omega arith)
     (λ c.
     placed_again (λ x y. y) c.before.before.loop.invariant (omega arith) (omega arith)
-    (c.octet.ensures ∙ sym (get_d_decode _ _ (omega arith))))
+    (c.octet.ensures ∙ sym (get_or-decode _ _ (omega arith))))
     (omega arith)
     (λ c. placed_end (λ x y. y) c.before.loop.invariant (omega arith)))

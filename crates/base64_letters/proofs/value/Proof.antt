@@ -16,12 +16,12 @@ value_spec =
     let third = fourth.before in
     let second = third.before in
     let first = second.before in
-    let read = first.before.widened in
+    let read = first.before.widened-x in
     rw (
       first.below_top.ensures.0,
-      second.below-top2.ensures.0,
-      third.below-top3.ensures.0,
-      fourth.below-top4.ensures.0,
-      c.below-top5.ensures.0,
+      second.below_top-2.ensures.0,
+      third.below_top-3.ensures.0,
+      fourth.below_top-4.ensures.0,
+      c.below_top-5.ensures.0,
     )
     (value_sum read.result (omega arith) ∙ ap value_of read.ensures)))

@@ -9,7 +9,7 @@ use lib.Bits.{bit_xor}
 use Rattle.lists.specs.Zip.{zip_at}
 use Rattle.lists.proofs.Placed.{Placed, placed_none, placed_again, placed_end}
 use Rattle.little_endian.specs.Bytes.{le_value}
-use Rattle.little_endian.proofs.ByteLaws.{length-words, get_d_words}
+use Rattle.little_endian.proofs.ByteLaws.{length-words, get_or-words}
 use Rattle.input.specs.Input.{padded, blocks, block}
 use Rattle.input.proofs.xor_block.Statement.{statement}
 use Rattle.input.proofs.xor_block.Tie as tie
@@ -24,6 +24,6 @@ xor-block-spec =
     (λ c.
     let head = c.before.before.before in
     placed_again bit_xor head.loop.invariant (omega arith) (omega arith)
-    (c.input-word.ensures ∙ sym (get_d_words 8 _ head.loop.i (omega arith)
+    (c.input-word.ensures ∙ sym (get_or-words 8 _ head.loop.i (omega arith)
     ∙ ap (λ (l : List ℕ). le_value (take 8 l)) (drop-drop (8 * head.loop.i) (64 * head.before.before.before.before.args.b) _))))
     (λ c. placed_end bit_xor c.before.loop.invariant (omega arith)))

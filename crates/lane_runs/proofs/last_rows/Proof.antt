@@ -3,7 +3,7 @@ use mathlib.Core.Path.{sym, ◌∙◌}
 use Prim.Native.Nat.{ℕ, ◌-◌, ◌+◌, ◌*◌}
 use native.Mathlib.Omega.{arith}
 use Rattle.lists.specs.Zip.{tabulate, zip_at}
-use Rattle.lists.proofs.ZipLaws.{length-tabulate, get_d_tabulate, put_all}
+use Rattle.lists.proofs.ZipLaws.{length-tabulate, get_or-tabulate, put_all}
 use Rattle.lists.proofs.Placed.{Placed, placed_none, placed_again, placed_end}
 use Rattle.columns.proofs.RowLaws.{row_before}
 use Rattle.lane_runs.proofs.last_rows.Statement.{statement}
@@ -27,7 +27,7 @@ add-prevs c = omega (arith, row_before c.before.before.before.before.loop.i c.be
 loop-again : tie.Need-loop-preserved invariant-loop decreases-loop
 loop-again c =
     let v = c.before.before.before.before.loop in
-    placed_again put v.invariant c.before.before.if1.true (omega arith) (sym (get_d_tabulate c.before.before.before.before.before.args.lanes.lanes _ v.i c.before.before.if1.true))
+    placed_again put v.invariant c.before.before.if1.true (omega arith) (sym (get_or-tabulate c.before.before.before.before.before.args.lanes.lanes _ v.i c.before.before.if1.true))
 
 returns : tie.Need-returns invariant-loop decreases-loop
 unfolding zip_at

@@ -5,7 +5,7 @@ use native.Mathlib.Omega.{arith}
 use lib.Bits.{bit_xor}
 use Rattle.lists.specs.Zip.{zip_at, xor_into}
 use Rattle.lists.proofs.Placed.{Placed, placed_none, placed_again, placed_end}
-use Rattle.lists.proofs.ZipLaws.{length_zip, get_d_zip, put_all}
+use Rattle.lists.proofs.ZipLaws.{length_zip, get_or-zip, put_all}
 use Rattle.matrix.proofs.xored.Statement.{statement}
 use Rattle.matrix.proofs.xored.Tie as tie
 
@@ -18,5 +18,5 @@ xored-spec =
     (omega arith) (omega arith) (omega arith) (omega arith) (omega arith) (omega arith) (omega arith) (omega arith)
     (λ c.
     let h = c.before.before.before.before.requires in
-    placed_again (λ (x y : ℕ). y) c.before.before.before.loop.invariant (omega arith) (omega arith) (sym (get_d_zip bit_xor _ _ _ (omega (arith, h.0)) (omega (arith, h.1)))))
+    placed_again (λ (x y : ℕ). y) c.before.before.before.loop.invariant (omega arith) (omega arith) (sym (get_or-zip bit_xor _ _ _ (omega (arith, h.0)) (omega (arith, h.1)))))
     (λ c. placed_end (λ (x y : ℕ). y) c.before.loop.invariant (omega arith) ∙ put_all _ _ (length_zip bit_xor _ _ ∙ c.before.before.requires.0)))

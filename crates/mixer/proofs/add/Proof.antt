@@ -12,11 +12,11 @@ add_spec =
     tie.close
     (tie.spec (λ c. search rules) (omega arith) (λ c. search rules) (omega arith) (omega arith) (omega arith)
     (λ c.
-    let a = c.before.before.before.args in
-    c.wrapping-add-u64.ensures ∙ ap (λ (x : Mixer). sum_of x a.a a.b) (sym c.before.enum_told.given.1))
+    let a = c.args in
+    c.wrapping_add_u64.ensures ∙ ap (λ (x : Mixer). sum_of x a.a a.b) (sym c.in-Plain.is))
     (λ c.
-    let a = c.before.before.before.before.before.args in
-    c.wrapping-add-u643.ensures
-    ∙ ap (λ (x : ℕ). (a.a + x) % 2 ^ 64) (c.before.wrapping-add-u642.ensures ∙ ap (λ (x : ℕ). (a.b + x) % 2 ^ 64) c.before.before.doubled-product.ensures)
+    let a = c.args in
+    c.wrapping_add_u64-in-BlaMka.ensures
+    ∙ ap (λ (x : ℕ). (a.a + x) % 2 ^ 64) (c.wrapping_add_u64-sum.ensures ∙ ap (λ (x : ℕ). (a.b + x) % 2 ^ 64) c.doubled_product.ensures)
     ∙ sum_of_three a.a a.b (doubled_product a.a a.b)
-    ∙ ap (λ (x : Mixer). sum_of x a.a a.b) (sym c.before.before.before.enum-told2.given.1)))
+    ∙ ap (λ (x : Mixer). sum_of x a.a a.b) (sym c.in-BlaMka.is)))

@@ -4,5 +4,5 @@ use Rattle.mixer.proofs.Additions.{halves_product}
 use Rattle.mixer.proofs.doubled_product.Statement.{statement}
 use Rattle.mixer.proofs.doubled_product.Tie as tie
 
-pub doubled-product-spec : {M : Type 1} → statement M
-doubled-product-spec = tie.close (tie.spec (λ c. record { fits = halves_product (omega arith) (omega arith) }) (omega arith) (omega arith))
+pub doubled_product_spec : {M : Type 1} → statement M
+doubled_product_spec = tie.close (tie.spec (λ c. record { fits = halves_product (omega arith) (omega arith) }) (omega arith) (omega arith))

@@ -4,11 +4,11 @@ use Rattle.mixer.proofs.GLaws.{half_g_steps}
 use Rattle.mixer.proofs.half_g.Statement.{statement}
 use Rattle.mixer.proofs.half_g.Tie as tie
 
-pub half-g-spec : {M : Type 1} → statement M
-half-g-spec =
+pub half_g_spec : {M : Type 1} → statement M
+half_g_spec =
     tie.close
     (tie.spec (omega arith) (omega arith) (omega arith) (omega arith)
     (λ c.
     let third = c.before.before in
-    half_g_steps _ _ _ _ _ _ _ _ third.before.before.before.add.ensures third.before.turn-right.ensures
-    third.add2.ensures c.turn-right2.ensures))
+    half_g_steps _ _ _ _ _ _ _ _ third.before.before.before.add-a.ensures third.before.turn_right-d.ensures
+    third.add-c.ensures c.turn_right-b.ensures))

@@ -5,6 +5,6 @@ use lib.Seq.{set_out}
 use Rattle.packing.proofs.note.Statement.{statement}
 use Rattle.packing.proofs.note.Tie as tie
 
-pub note-spec : {M : Type 1} → statement M
-note-spec =
-    tie.close (tie.spec (λ c. search rules) (λ c. search rules) (λ c. search rules) (λ c. search rules) (λ c. search rules) (λ c. search rules) (λ c. sym (set_out _ _ _ c.if1.false)))
+pub note_spec : {M : Type 1} → statement M
+note_spec =
+    tie.close (tie.spec (λ c. search rules) (λ c. search rules) (λ c. search rules) (λ c. search rules) (λ c. search rules) (λ c. search rules) (λ c. sym (set_out _ _ _ c.if-at-record.false)))

@@ -5,9 +5,9 @@ use Rattle.rate.specs.Rate.{rand}
 use Rattle.rate.proofs.output.Statement.{statement}
 use Rattle.rate.proofs.output.Tie as tie
 
-pub output-spec : {M : Type 1} → statement M
+pub output_spec : {M : Type 1} → statement M
 unfolding rand tabulate
-output-spec =
+output_spec =
     tie.close
     (tie.spec (omega arith) (omega arith) (omega arith) (omega arith) (omega arith) (omega arith) (omega arith) (omega arith)
     (omega arith) (omega arith) (omega arith) (omega arith) (λ c. refl))

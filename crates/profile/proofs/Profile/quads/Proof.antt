@@ -3,6 +3,6 @@ use Rattle.profile.specs.Profile.{quads}
 use Rattle.profile.proofs.Profile.quads.Statement.{statement}
 use Rattle.profile.proofs.Profile.quads.Tie as tie
 
-pub quads-spec : {M : Type 1} → statement M
+pub quads_spec : {M : Type 1} → statement M
 unfolding quads
-quads-spec = tie.close (tie.spec (λ c. refl))
+quads_spec = tie.close (tie.spec (λ c. refl))

@@ -5,10 +5,10 @@ use Rattle.setup_order.specs.SetupOrder.{moved, next_order}
 use Rattle.setup_order.proofs.Order.next.Statement.{statement}
 use Rattle.setup_order.proofs.Order.next.Tie as tie
 
-pub next-spec : {M : Type 1} → statement M
+pub next_spec : {M : Type 1} → statement M
 unfolding moved next_order
-next-spec =
+next_spec =
     tie.close
     (tie.spec (omega arith) (omega arith) (omega arith) (omega arith)
-    (λ c. simp (eq-eqb (moved c.before.before.before.args.self).row1 0 c.before.if1.true) c.new-window.ensures)
-    (λ c. simp (ne_eqb (moved c.before.before.args.self).row1 0 c.if1.false)))
+    (λ c. simp (eq-eqb (moved c.before.before.before.args.self).row1 0 c.before.if-row1-eq0.true) c.new_window.ensures)
+    (λ c. simp (ne_eqb (moved c.before.before.args.self).row1 0 c.if-row1-eq0.false)))

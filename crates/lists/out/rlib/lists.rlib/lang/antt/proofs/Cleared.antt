@@ -5,24 +5,24 @@ use native.Mathlib.Nat.{not-suc-le-zero, le_of_suc-le-suc}
 use native.Mathlib.Omega.{arith}
 use mathlib.Core.List.{List, [], ◌∷◌}
 use lib.ListN.{length, take, drop, replicate, length-replicate}
-use Rattle.lists.specs.Zip.{zipInto, zipAt, cleared}
+use Rattle.lists.specs.Zip.{zip_into, zip_at, cleared}
 use Rattle.lists.proofs.ZipLaws.{put_front}
-use Rattle.lists.proofs.Parts.{drop-zip}
+use Rattle.lists.proofs.Parts.{drop_zip}
 
 module _ (f : ℕ → ℕ → ℕ) where
-  cleared-zip : (n : ℕ) (xs ys : List ℕ) → length ys ≤ n → cleared n (zipInto f xs ys) ≡ cleared n xs
-  unfolding cleared zipInto
-  cleared-zip n [] ys h = refl
-  cleared-zip n (x ∷ xs) [] h = refl
-  cleared-zip zero (x ∷ xs) (y ∷ ys) h = absurd (not-suc-le-zero h)
-  cleared-zip (suc n) (x ∷ xs) (y ∷ ys) h = ap (λ (l : List ℕ). 0 ∷ l) (cleared-zip n xs ys (le_of_suc-le-suc h))
+  cleared_zip : (n : ℕ) (xs ys : List ℕ) → length ys ≤ n → cleared n (zip_into f xs ys) ≡ cleared n xs
+  unfolding cleared zip_into
+  cleared_zip n [] ys h = refl
+  cleared_zip n (x ∷ xs) [] h = refl
+  cleared_zip zero (x ∷ xs) (y ∷ ys) h = absurd (not-suc-le-zero h)
+  cleared_zip (suc n) (x ∷ xs) (y ∷ ys) h = ap (λ (l : List ℕ). 0 ∷ l) (cleared_zip n xs ys (le_of_suc-le-suc h))
 
-  pub cleared-zipAt : (n a : ℕ) (xs ys : List ℕ) → a + length ys ≤ n → cleared n (zipAt f a xs ys) ≡ cleared n xs
-  unfolding cleared zipAt zipInto
-  cleared-zipAt n zero xs ys h = cleared-zip n xs ys (omega arith)
-  cleared-zipAt n (suc a) [] ys h = refl
-  cleared-zipAt zero (suc a) (x ∷ xs) ys h = absurd (omega arith)
-  cleared-zipAt (suc n) (suc a) (x ∷ xs) ys h = ap (λ (l : List ℕ). 0 ∷ l) (cleared-zipAt n a xs ys (omega arith))
+  pub cleared-zip_at : (n a : ℕ) (xs ys : List ℕ) → a + length ys ≤ n → cleared n (zip_at f a xs ys) ≡ cleared n xs
+  unfolding cleared zip_at zip_into
+  cleared-zip_at n zero xs ys h = cleared_zip n xs ys (omega arith)
+  cleared-zip_at n (suc a) [] ys h = refl
+  cleared-zip_at zero (suc a) (x ∷ xs) ys h = absurd (omega arith)
+  cleared-zip_at (suc n) (suc a) (x ∷ xs) ys h = ap (λ (l : List ℕ). 0 ∷ l) (cleared-zip_at n a xs ys (omega arith))
 
 pub take-cleared : (n : ℕ) (xs : List ℕ) → n ≤ length xs → take n (cleared n xs) ≡ replicate n 0
 unfolding cleared
@@ -32,4 +32,4 @@ take-cleared n xs h =
 
 pub drop-cleared : (n : ℕ) (xs : List ℕ) → drop n (cleared n xs) ≡ drop n xs
 unfolding cleared
-drop-cleared n xs = drop-zip (λ x y. y) n xs (replicate n 0) (omega (arith, length-replicate {A = ℕ} n 0))
+drop-cleared n xs = drop_zip (λ x y. y) n xs (replicate n 0) (omega (arith, length-replicate {A = ℕ} n 0))

@@ -10,19 +10,19 @@ use lib.ListN.{length, get_or, drop, drop_of_length-le}
 use lib.Seq.{drop-cons}
 use lib.Dec.{eqb}
 use borrow.Author.Tests.{eqb-true, eq-eqb}
-use Rattle.lists.specs.Every.{every, sameBytes}
+use Rattle.lists.specs.Every.{every, same_bytes}
 
 module _ (p : ℕ → Bool) where
-  pub every-at : (xs : List ℕ) → every p xs ≡ true → (i : ℕ) → i < length xs → p (get_or xs i 0) ≡ true
+  pub every_at : (xs : List ℕ) → every p xs ≡ true → (i : ℕ) → i < length xs → p (get_or xs i 0) ≡ true
   unfolding every
-  every-at [] e i h = absurd (not-suc-le-zero h)
-  every-at (x ∷ xs) e zero h = ((and-eq-true_iff (p x) (every p xs)).0 e).0
-  every-at (x ∷ xs) e (suc i) h = every-at xs ((and-eq-true_iff (p x) (every p xs)).0 e).1 i (le_of_suc-le-suc h)
+  every_at [] e i h = absurd (not-suc-le-zero h)
+  every_at (x ∷ xs) e zero h = ((and-eq-true_iff (p x) (every p xs)).0 e).0
+  every_at (x ∷ xs) e (suc i) h = every_at xs ((and-eq-true_iff (p x) (every p xs)).0 e).1 i (le_of_suc-le-suc h)
 
-  pub every-all : (xs : List ℕ) → ((i : ℕ) → i < length xs → p (get_or xs i 0) ≡ true) → every p xs ≡ true
+  pub every_all : (xs : List ℕ) → ((i : ℕ) → i < length xs → p (get_or xs i 0) ≡ true) → every p xs ≡ true
   unfolding every
-  every-all [] h = refl
-  every-all (x ∷ xs) h = ap₂ ◌&&◌ (h zero (omega arith)) (every-all xs (λ i l. h (suc i) (omega arith)))
+  every_all [] h = refl
+  every_all (x ∷ xs) h = ap₂ ◌&&◌ (h zero (omega arith)) (every_all xs (λ i l. h (suc i) (omega arith)))
 
   pub every_append : (xs ys : List ℕ) → every p xs ≡ true → every p ys ≡ true → every p (xs ++ ys) ≡ true
   unfolding every
@@ -43,28 +43,28 @@ module _ (p : ℕ → Bool) where
     unfolding every
     here h e = ap (λ (t : Bool). t && every p (drop (suc i) xs)) (sym e) ∙ ap (every p) (sym (drop-cons xs i 0 h)) ∙ q.others
 
-    pub passed-more : i < length xs → p (get_or xs i 0) ≡ true → Passed xs (i + 1)
-    passed-more h e = record { inside = omega arith; others = rw add-one (here h e) }
+    pub passed_more : i < length xs → p (get_or xs i 0) ≡ true → Passed xs (i + 1)
+    passed_more h e = record { inside = omega arith; others = rw add-one (here h e) }
 
     pub failed : i < length xs → p (get_or xs i 0) ≡ false → false ≡ every p xs
     failed h e = here h e
 
-    pub passed-end : length xs ≤ i → true ≡ every p xs
+    pub passed_end : length xs ≤ i → true ≡ every p xs
     unfolding every
-    passed-end h = ap (every p) (sym (drop_of_length-le xs {i = i} h)) ∙ q.others
+    passed_end h = ap (every p) (sym (drop_of_length-le xs {i = i} h)) ∙ q.others
 
 -- ---- sameBytes is equality
 
-pub same-of-equal : (xs : List ℕ) → sameBytes xs xs ≡ true
-unfolding sameBytes
-same-of-equal [] = refl
-same-of-equal (x ∷ xs) = ap₂ ◌&&◌ (eq-eqb x x refl) (same-of-equal xs)
+pub same_of_equal : (xs : List ℕ) → same_bytes xs xs ≡ true
+unfolding same_bytes
+same_of_equal [] = refl
+same_of_equal (x ∷ xs) = ap₂ ◌&&◌ (eq-eqb x x refl) (same_of_equal xs)
 
-pub equal-of-same : (xs ys : List ℕ) → sameBytes xs ys ≡ true → xs ≡ ys
-unfolding sameBytes
-equal-of-same [] [] e = refl
-equal-of-same [] (y ∷ ys) e = absurd (false≢true e)
-equal-of-same (x ∷ xs) [] e = absurd (false≢true e)
-equal-of-same (x ∷ xs) (y ∷ ys) e =
-    let h = (and-eq-true_iff (eqb x y) (sameBytes xs ys)).0 e in
-    ap₂ (λ (a : ℕ) (l : List ℕ). a ∷ l) (eqb-true x y h.0) (equal-of-same xs ys h.1)
+pub equal_of_same : (xs ys : List ℕ) → same_bytes xs ys ≡ true → xs ≡ ys
+unfolding same_bytes
+equal_of_same [] [] e = refl
+equal_of_same [] (y ∷ ys) e = absurd (false≢true e)
+equal_of_same (x ∷ xs) [] e = absurd (false≢true e)
+equal_of_same (x ∷ xs) (y ∷ ys) e =
+    let h = (and-eq-true_iff (eqb x y) (same_bytes xs ys)).0 e in
+    ap₂ (λ (a : ℕ) (l : List ℕ). a ∷ l) (eqb-true x y h.0) (equal_of_same xs ys h.1)

@@ -16,10 +16,10 @@ one_more P (x ∷ xs) y h p = (h.0, one_more P xs y h.1 p)
 
 -- `list n` has the elements 0 to n - 1
 module _ {A : Type 0} (list : ℕ → List A) (element : ℕ → A) (none : list 0 ≡ []) (more : (n : ℕ) → list (suc n) ≡ list n ++ (element n ∷ [])) where
-  pub grown-length : (n : ℕ) → length (list n) ≡ n
-  grown-length zero = ap length none
-  grown-length (suc n) = omega (arith, ap length (more n), length-append (list n) (element n ∷ []), grown-length n)
+  pub grown_length : (n : ℕ) → length (list n) ≡ n
+  grown_length zero = ap length none
+  grown_length (suc n) = omega (arith, ap length (more n), length-append (list n) (element n ∷ []), grown_length n)
 
-  pub grown-all : (P : A → Type 0) → ((n : ℕ) → P (element n)) → (n : ℕ) → All P (list n)
-  grown-all P h zero = subst (All P) (sym none) tt
-  grown-all P h (suc n) = subst (All P) (sym (more n)) (one_more P (list n) (element n) (grown-all P h n) (h n))
+  pub grown_all : (P : A → Type 0) → ((n : ℕ) → P (element n)) → (n : ℕ) → All P (list n)
+  grown_all P h zero = subst (All P) (sym none) tt
+  grown_all P h (suc n) = subst (All P) (sym (more n)) (one_more P (list n) (element n) (grown_all P h n) (h n))

@@ -9,8 +9,8 @@ use lib.ListN.{get_or, set}
 abbrev pub AllWords : List ℕ → Type 0
 AllWords s = (i : ℕ) → get_or s i 0 < 2 ^ 64
 
-pub none-words : AllWords []
-none-words i = omega arith
+pub none_words : AllWords []
+none_words i = omega arith
 
 pub cons-words : (x : ℕ) (s : List ℕ) → x < 2 ^ 64 → AllWords s → AllWords (x ∷ s)
 cons-words x s hx hs zero = hx
@@ -21,9 +21,9 @@ abbrev pub EachWord : List ℕ → Type 0
 EachWord [] = Unit {0}
 EachWord (x ∷ s) = (x < 2 ^ 64) × EachWord s
 
-pub each-words : (s : List ℕ) → EachWord s → AllWords s
-each-words [] h = none-words
-each-words (x ∷ s) h = cons-words x s h.0 (each-words s h.1)
+pub each_words : (s : List ℕ) → EachWord s → AllWords s
+each_words [] h = none_words
+each_words (x ∷ s) h = cons-words x s h.0 (each_words s h.1)
 
 -- two lists that are written out are equal where each element is
 abbrev pub EachSame : List ℕ → List ℕ → Type 0
