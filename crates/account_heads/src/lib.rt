@@ -1,5 +1,6 @@
 // What stands at a place of a book of accounts: the core of the reader, over a slice and a place.
 #![tactic(auto)]
+
 ghost use Rattle.std.specs.Prelude.{◌≡◌, ◌+◌, ◌*◌, ◌≤◌, ◌<◌, ◌^◌, length, drop};
 ghost use Rattle.accounts.specs.Accounts.{head_bytes, number_at, head_of, nothing, entry_of};
 

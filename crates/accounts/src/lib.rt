@@ -1,6 +1,7 @@
 // What stands in a book of accounts, and what its operations answer. The accounts, the book and the theorems about them are in specs/ and
 // proofs/; there is no function here.
 #![tactic(auto)]
+
 use settings::StoredParameters;
 
 // What the head of an account says, and the bytes of the whole account. All are zero where no account stands.

@@ -3,7 +3,7 @@
 #![tactic(auto)]
 ghost use Rattle.std.specs.Prelude.{◌≡◌, ◌-◌, ◌%◌, ◌≤◌, ◌<◌, eqb, length};
 ghost use Rattle.lists.specs.Zip.{put_into};
-ghost use Rattle.base64.specs.Base64.{value_at, octet, decoded_length, decode, unused, is_text};
+ghost use Rattle.base64_encoding.specs.Base64.{value_at, octet, decoded_length, decode, unused, is_text};
 
 use base64_letters::value;
 

@@ -1,5 +1,6 @@
 // A round of the permutation with BlaMka.
 #![tactic(auto)]
+
 ghost use Rattle.std.specs.Prelude.{◌≡◌, ◌<◌};
 ghost use Rattle.mixer.specs.G.{half_g};
 ghost use Rattle.mixer.specs.Mixers.{blamka_sum};

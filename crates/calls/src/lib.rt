@@ -1,5 +1,6 @@
 // Rounds of either mixer, and the full and reduced calls made of them.
 #![tactic(auto)]
+
 ghost use Rattle.std.specs.Prelude.{◌≡◌};
 ghost use Rattle.mixer.specs.Mixers.{blamka_sum, sum_of};
 ghost use Rattle.permutation.specs.Round.{round, rounds};

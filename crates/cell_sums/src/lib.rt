@@ -1,5 +1,6 @@
 // Wordwise sums of cells, XORed into the state with no cell in between.
 #![tactic(auto)]
+
 ghost use Rattle.std.specs.Prelude.{◌≡◌, length};
 ghost use Rattle.lists.specs.Zip.{xor_into};
 ghost use Rattle.mixer.specs.Word.{plain_sum};

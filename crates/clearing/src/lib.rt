@@ -1,5 +1,6 @@
 // Zeros in place of what a derivation worked on, once nothing needs it any more.
 #![tactic(auto)]
+
 ghost use Rattle.std.specs.Prelude.{◌≡◌, ◌≤◌, length, replicate};
 ghost use Rattle.lists.specs.Zip.{cleared};
 ghost use Rattle.profile.specs.Profile.{state_words};

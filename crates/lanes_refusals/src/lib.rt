@@ -1,5 +1,6 @@
 // When a call with several lanes is turned down.
 #![tactic(auto)]
+
 ghost use Rattle.std.specs.Prelude.{◌≡◌};
 ghost use Rattle.refusals.specs.Checks.{broken, between, refuses, max_time, lanes_check, first, lanes_cost_checks, lanes_checks};
 

@@ -7,7 +7,7 @@ use Rattle.lists.specs.Every.{every, same_bytes}
 use Rattle.refusals.specs.Checks.{first, stored_checks}
 use Rattle.decimal.specs.Decimal.{decimal_up_to, is_number, number_from}
 use Rattle.base64_letters.specs.Letters.{letter, value_of}
-use Rattle.base64.specs.Base64.{three, sextet, encoded_length, encode, value_at, four, octet, decoded_length, decode, unused, is_text}
+use Rattle.base64_encoding.specs.Base64.{three, sextet, encoded_length, encode, value_at, four, octet, decoded_length, decode, unused, is_text}
 use Rattle.line_form.specs.Line.{Values, joined, line_of, until, end_at, is_marked, is_line, values_of}
 use Rattle.line_form.specs.Promises.{read_checks, write_checks}
 

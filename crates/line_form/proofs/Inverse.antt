@@ -12,10 +12,10 @@ use borrow.Author.Tests.{ne_eqb}
 use Rattle.lists.proofs.EveryLaws.{every_at, every_all, same_of_equal}
 use Rattle.decimal.specs.Decimal.{decimal, is_digit, is_number, number_of}
 use Rattle.decimal.proofs.Inverse.{digit_bounds, decimal_all_digits, decimal_number, number_decimal, decimal_of}
-use Rattle.base64.specs.Base64.{encode, decode, is_text}
-use Rattle.base64.proofs.Elements.{decode_bytes}
-use Rattle.base64.proofs.Texts.{encode_text, text_no_dollar}
-use Rattle.base64.proofs.Inverse.{decode-encode, encode-decode}
+use Rattle.base64_encoding.specs.Base64.{encode, decode, is_text}
+use Rattle.base64_encoding.proofs.Elements.{decode_bytes}
+use Rattle.base64_encoding.proofs.Texts.{encode_text, text_no_dollar}
+use Rattle.base64_encoding.proofs.Inverse.{decode-encode, encode-decode}
 use Rattle.text.specs.Text.{stands_at}
 use Rattle.text.proofs.Standing.{stands}
 use Rattle.line_form.specs.Line.{Values, Bytes, start_mark, rows_mark, columns_mark, text_mark, joined, line_of, time_end, rows_end, columns_end, salt_end, time_text, rows_text, columns_text, salt_text, key_text, is_marked, is_line, values_of}

@@ -6,8 +6,8 @@ use lib.ListN.{length, length-append}
 use Rattle.refusals.specs.Checks.{first, stored_checks}
 use Rattle.refusals.proofs.Accepted.{accepted}
 use Rattle.decimal.proofs.Decimal.{decimal_fits}
-use Rattle.base64.specs.Base64.{encoded_length}
-use Rattle.base64.proofs.Elements.{length-encode}
+use Rattle.base64_encoding.specs.Base64.{encoded_length}
+use Rattle.base64_encoding.proofs.Elements.{length-encode}
 use Rattle.line_form.specs.Line.{Values, joined, line_of, length_by}
 use Rattle.line_form.specs.Promises.{value_checks}
 

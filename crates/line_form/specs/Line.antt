@@ -3,7 +3,7 @@ use Rattle.std.specs.Prelude.{ℕ, ◌+◌, ◌<◌, Bool, cond, ◌&&◌, List,
 use Rattle.text.specs.Text.{stands_at}
 use Rattle.settings.specs.declared.StoredParameters.{StoredParameters}
 use Rattle.decimal.specs.Decimal.{decimal, is_number, number_of}
-use Rattle.base64.specs.Base64.{encoded_length, encode, decode, is_text}
+use Rattle.base64_encoding.specs.Base64.{encoded_length, encode, decode, is_text}
 
 -- ---- written
 

@@ -12,8 +12,8 @@ use borrow.Author.Tests.{lt-ltb, le-ltb}
 use Rattle.refusals.specs.Checks.{◌≤?◌, Check, broken, refuses, range, first, answered, key_check, short_salt_check, long_salt_check, form_check, output_check, stored_checks}
 use Rattle.refusals.proofs.Accepted.{accepted, flag-set, first_refused, first_passed, first_before, first-joined}
 use Rattle.refusals.proofs.Answered.{answered-yes, answered_no, answered_number}
-use Rattle.base64.specs.Base64.{decode, decoded_length}
-use Rattle.base64.proofs.Elements.{length-decode}
+use Rattle.base64_encoding.specs.Base64.{decode, decoded_length}
+use Rattle.base64_encoding.proofs.Elements.{length-decode}
 use Rattle.line_form.specs.Line.{is_line, values_of}
 use Rattle.line_form.specs.Promises.{value_checks, read_checks, line_values, no_values, read_answer}
 use Rattle.line_form.specs.declared.LineValues.{LineValues}

@@ -3,7 +3,7 @@
 ghost use Rattle.std.specs.Prelude.{◌≡◌, ◌≤◌, [], ◌∷◌, length};
 ghost use Rattle.lists.specs.Zip.{put_into};
 ghost use Rattle.refusals.specs.Checks.{◌≤?◌, first, answered, output_check};
-ghost use Rattle.base64.specs.Base64.{decode, decoded_length};
+ghost use Rattle.base64_encoding.specs.Base64.{decode, decoded_length};
 ghost use Rattle.line_form.specs.Promises.{Read, read_answer};
 ghost use Rattle.line_texts.specs.Texts.{part_of};
 

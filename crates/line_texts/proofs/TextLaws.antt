@@ -6,8 +6,8 @@ use native.Mathlib.Omega.{arith}
 use mathlib.Core.List.{List}
 use lib.ListN.{length, take, drop, length-drop}
 use lib.Seq.{take-append_seam, take_all}
-use Rattle.base64.specs.Base64.{decode, decoded_length}
-use Rattle.base64.proofs.Elements.{length-decode}
+use Rattle.base64_encoding.specs.Base64.{decode, decoded_length}
+use Rattle.base64_encoding.proofs.Elements.{length-decode}
 use Rattle.line_form.specs.Line.{until, end_at, time_end, rows_end, columns_end, salt_end, time_text, rows_text, columns_text, salt_text, key_text, is_line, values_of}
 use Rattle.line_form.specs.Promises.{line_values, no_values}
 use Rattle.line_form.specs.declared.LineValues.{LineValues}

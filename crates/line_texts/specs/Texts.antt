@@ -1,7 +1,7 @@
 -- The texts of a login line, as the code finds and keeps them.
 use Rattle.std.specs.Prelude.{ℕ, ◌-◌, min, Bool, cond, ◌&&◌, List, take, drop}
 use Rattle.decimal.specs.Decimal.{is_number}
-use Rattle.base64.specs.Base64.{is_text}
+use Rattle.base64_encoding.specs.Base64.{is_text}
 use Rattle.line_form.specs.Line.{time_text, rows_text, columns_text, salt_text, key_text, is_line, values_of}
 use Rattle.line_form.specs.Promises.{line_values, no_values}
 use Rattle.line_form.specs.declared.LineValues.{LineValues}

@@ -2,7 +2,7 @@
 #![tactic(auto)]
 ghost use Rattle.std.specs.Prelude.{◌≡◌, ◌&&◌, ◌+◌, ◌≤◌, min, length};
 ghost use Rattle.decimal.specs.Decimal.{is_number, number_of};
-ghost use Rattle.base64.specs.Base64.{is_text};
+ghost use Rattle.base64_encoding.specs.Base64.{is_text};
 ghost use Rattle.line_form.specs.Line.{values_of};
 ghost use Rattle.line_form.specs.Promises.{line_values, no_values};
 ghost use Rattle.line_marks.specs.Ends.{Marked};

@@ -12,7 +12,7 @@ use Rattle.refusals.specs.Checks.{◌≤?◌, Check, first, output_check, stored
 use Rattle.refusals.proofs.Accepted.{accepted, first_refused, first_passed, first_none, more_refuse, more_pass}
 use Rattle.refusals.proofs.Answered.{answered-yes, answered_no}
 use Rattle.decimal.specs.Decimal.{decimal}
-use Rattle.base64.specs.Base64.{encode}
+use Rattle.base64_encoding.specs.Base64.{encode}
 use Rattle.line_form.specs.Line.{Values, start_mark, rows_mark, columns_mark, text_mark, joined, line_of, length_by}
 use Rattle.line_form.specs.Promises.{value_checks, write_checks, line_length, no_length, write_number, Written}
 use Rattle.line_form.specs.declared.LineLength.{LineLength}

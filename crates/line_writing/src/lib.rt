@@ -3,12 +3,12 @@
 ghost use Rattle.std.specs.Prelude.{◌≡◌, ◌+◌, ◌≤◌, ◌<◌, ◌++◌, length};
 ghost use Rattle.text.specs.Text.{Appended};
 ghost use Rattle.decimal.specs.Decimal.{decimal};
-ghost use Rattle.base64.specs.Base64.{encoded_length, encode};
+ghost use Rattle.base64_encoding.specs.Base64.{encoded_length, encode};
 ghost use Rattle.line_form.specs.Line.{text_mark, line_of, length_by};
 ghost use Rattle.line_form.specs.Promises.{Written, no_length};
 ghost use Rattle.line_writing.specs.Values.{values, WithinLimits};
 
-use base64::{append_encoded, encoded_length};
+use base64_encoding::{append_encoded, encoded_length};
 use decimal::{append_decimal, decimal_length};
 use line_form::LineLength;
 use refusals::{OUTPUT_LENGTH, stored_refusal};

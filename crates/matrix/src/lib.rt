@@ -1,5 +1,6 @@
 // The lent matrix: its cells, and what is written to them from the sponge's output.
 #![tactic(auto)]
+
 ghost use Rattle.std.specs.Prelude.{◌≡◌, ◌⊎◌, ◌+◌, ◌≤◌, ◌<◌, length};
 ghost use Rattle.std.specs.Int.Bits.{bit_xor};
 ghost use Rattle.lists.specs.Zip.{zip_at, xor_into};

@@ -1,5 +1,6 @@
 // The padded input, byte by byte as it is asked for. No copy of the password is made.
 #![tactic(auto)]
+
 ghost use Rattle.std.specs.Prelude.{◌≡◌, ◌+◌, ◌*◌, ◌≤◌, ◌<◌, length, get_or, take, drop};
 ghost use Rattle.little_endian.specs.Bytes.{le_value};
 ghost use Rattle.padded_input.specs.Padded.{Short, block_bytes, padding, padded, blocks};

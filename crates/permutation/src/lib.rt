@@ -1,5 +1,6 @@
 // The permutation: rounds of G over the state, without message words, with plain sums.
 #![tactic(auto)]
+
 ghost use Rattle.std.specs.Prelude.{◌≡◌};
 ghost use Rattle.mixer.specs.G.{G};
 ghost use Rattle.mixer.specs.Word.{plain_sum};

@@ -1,5 +1,6 @@
 // Rows and columns of the lent matrix, and the words where rows and cells start.
 #![tactic(auto)]
+
 ghost use Rattle.std.specs.Prelude.{◌≡◌, ◌<◌, ◌^◌};
 ghost use Rattle.places.specs.Places.{row_start, first_word, cell_start};
 

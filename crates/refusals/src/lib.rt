@@ -1,5 +1,6 @@
 // When a call is turned down: the number of the first check that refuses, in the operation's order. 0 is no refusal.
 #![tactic(auto)]
+
 ghost use Rattle.std.specs.Prelude.{◌≡◌, cond, [], ◌∷◌};
 ghost use Rattle.refusals.specs.Checks.{◌≤?◌, first, broken, between, cost_checks, stored_checks, walk_checks, rows_check};
 

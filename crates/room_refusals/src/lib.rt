@@ -1,5 +1,6 @@
 // The checks that a derivation has after those of the cost question: ω, and the room in lent memory.
 #![tactic(auto)]
+
 ghost use Rattle.std.specs.Prelude.{◌≡◌, ◌+◌, ◌*◌, ◌≤◌, ◌<◌, ◌^◌};
 ghost use Rattle.refusals.specs.Checks.{first, plain_checks, recorded_checks};
 

@@ -1,5 +1,6 @@
 // What a caller gives: T, R, C, ρ, ω and the mixer, and the lengths; and how many words of the matrix are used.
 #![tactic(auto)]
+
 ghost use Rattle.std.specs.Prelude.{◌≡◌, ◌<◌, ◌^◌};
 ghost use Rattle.settings.specs.Settings.{settings, usual};
 ghost use Rattle.settings.specs.Sizes.{matrix_words};

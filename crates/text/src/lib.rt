@@ -1,5 +1,6 @@
 // Text in a lent buffer. What appends answers where its text ends.
 #![tactic(auto)]
+
 ghost use Rattle.std.specs.Prelude.{◌≡◌, ◌+◌, ◌≤◌, length};
 ghost use Rattle.text.specs.Text.{Appended, stands_at};
 

@@ -57,7 +57,7 @@ pub fn visit_column(
     p: Parameters,
 ) -> Picks
     requires { (col.0 < p.columns) × (at.col0.0 < p.columns) × (at.col1.0 < p.columns) × Within p.columns rows (length m.old) }
-    ensures* { λ r. ⌜ Picked (settings p) s.new r × AtRows p.columns rows (λ r. s.new ≡ duplexed (settings p) (visit_cells (settings p) r col.0 at m.old) s.old) × AtRows p.columns rows (λ r. m.new ≡ visit_written (settings p) r col.0 s.new m.old) ⌝ }
+    ensures { Picked (settings p) s.new result × AtRows p.columns rows (λ r. s.new ≡ duplexed (settings p) (visit_cells (settings p) r col.0 at m.old) s.old) × AtRows p.columns rows (λ r. m.new ≡ visit_written (settings p) r col.0 s.new m.old) }
 {
     duplex_visit(s, m, rows, col, at, p);
     write_visit(m, s, rows, col, p);

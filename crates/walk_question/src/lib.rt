@@ -1,5 +1,6 @@
 // The walk question: row1 of a Setup step.
 #![tactic(auto)]
+
 ghost use Rattle.std.specs.Prelude.{◌≡◌, ◌≤◌};
 ghost use Rattle.setup_order.specs.SetupOrder.{row1_of};
 ghost use Rattle.walk_question.specs.Question.{walk_answer};

@@ -1,6 +1,6 @@
 -- `decoded_length` meets its contract by arithmetic. Assumes nothing.
 use native.Mathlib.Omega.{arith}
-use Rattle.base64.specs.Base64.{decoded_length}
+use Rattle.base64_encoding.specs.Base64.{decoded_length}
 use Rattle.base64_decoding.proofs.decoded_length.Statement.{statement}
 use Rattle.base64_decoding.proofs.decoded_length.Tie as tie
 

@@ -4,8 +4,8 @@ use Prim.Native.Nat.{◌-◌}
 use native.Mathlib.Omega.{arith}
 use lib.ListN.{length}
 use Rattle.lists.proofs.EveryLaws.{Passed, passed_none}
-use Rattle.base64.specs.Base64.{is_letter}
-use Rattle.base64.proofs.Reading.{letter_more, no_letter, letter_over, all_read}
+use Rattle.base64_encoding.specs.Base64.{is_letter}
+use Rattle.base64_encoding.proofs.Reading.{letter_more, no_letter, letter_over, all_read}
 use Rattle.base64_decoding.proofs.is_text.Statement.{statement}
 use Rattle.base64_decoding.proofs.is_text.Tie as tie
 

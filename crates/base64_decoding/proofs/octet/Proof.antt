@@ -1,7 +1,7 @@
 -- `octet` meets its contract: the letters make the group's number, and a shift is a division. Assumes nothing.
 use native.Mathlib.Omega.{arith}
-use Rattle.base64.specs.Base64.{four, octet, decoded_length}
-use Rattle.base64.proofs.Groups.{shift_3}
+use Rattle.base64_encoding.specs.Base64.{four, octet, decoded_length}
+use Rattle.base64_encoding.proofs.Groups.{shift_3}
 use Rattle.base64_decoding.proofs.octet.Statement.{statement}
 use Rattle.base64_decoding.proofs.octet.Tie as tie
 

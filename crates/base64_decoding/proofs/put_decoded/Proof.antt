@@ -4,8 +4,8 @@ use Prim.Native.Nat.{◌-◌}
 use native.Mathlib.Omega.{arith}
 use Rattle.lists.specs.Zip.{zip_at}
 use Rattle.lists.proofs.Placed.{Placed, placed_none, placed_again, placed_end}
-use Rattle.base64.specs.Base64.{decode}
-use Rattle.base64.proofs.Elements.{length-decode, get_or-decode}
+use Rattle.base64_encoding.specs.Base64.{decode}
+use Rattle.base64_encoding.proofs.Elements.{length-decode, get_or-decode}
 use Rattle.base64_decoding.proofs.put_decoded.Statement.{statement}
 use Rattle.base64_decoding.proofs.put_decoded.Tie as tie
 

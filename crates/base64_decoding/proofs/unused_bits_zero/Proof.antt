@@ -1,6 +1,6 @@
 -- `unused_bits_zero` meets its contract by the cases of the length. Assumes nothing.
 use native.Mathlib.Omega.{arith}
-use Rattle.base64.proofs.Reading.{unused-four, unused_two, unused_none}
+use Rattle.base64_encoding.proofs.Reading.{unused-four, unused_two, unused_none}
 use Rattle.base64_decoding.proofs.unused_bits_zero.Statement.{statement}
 use Rattle.base64_decoding.proofs.unused_bits_zero.Tie as tie
 

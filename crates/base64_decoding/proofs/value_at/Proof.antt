@@ -2,7 +2,7 @@
 use mathlib.Core.Path.{sym, ◌∙◌}
 use native.Mathlib.Omega.{arith}
 use Rattle.base64_letters.proofs.LetterLaws.{value_most}
-use Rattle.base64.proofs.Elements.{value_inside, past_value}
+use Rattle.base64_encoding.proofs.Elements.{value_inside, past_value}
 use Rattle.base64_decoding.proofs.value_at.Statement.{statement}
 use Rattle.base64_decoding.proofs.value_at.Tie as tie
 

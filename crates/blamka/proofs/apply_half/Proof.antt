@@ -6,11 +6,11 @@ use Rattle.permutation.proofs.Along.{applied}
 use Rattle.blamka.proofs.apply_half.Statement.{statement}
 use Rattle.blamka.proofs.apply_half.Tie as tie
 
-pub apply-half-spec : {M : Type 1} → statement M
-apply-half-spec =
+pub apply_half_spec : {M : Type 1} → statement M
+apply_half_spec =
     tie.close
     (tie.spec (omega arith) (omega arith) (omega arith)
     (λ c.
-    let a = c.before.before.before.before.before.args in
-    applied (half_g blamka_sum a.m a.n) a.q a.s.now c.before.before.before.words-at.ensures c.before.before.half-g.ensures
-    c.put-words.ensures))
+    let a = c.args in
+    applied (half_g blamka_sum a.m a.n) a.q a.s.now c.words_at.ensures c.half_g-w.ensures
+    c.put_words.ensures))

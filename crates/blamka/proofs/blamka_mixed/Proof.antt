@@ -19,8 +19,8 @@ f = half_g blamka_sum 32 24
 abbrev g : Words → Words
 g = half_g blamka_sum 16 63
 
-pub blamka-mixed-spec : {M : Type 1} → statement M
-blamka-mixed-spec =
+pub blamka_mixed_spec : {M : Type 1} → statement M
+blamka_mixed_spec =
     tie.close
     (tie.spec
     (λ quads t₀ a₀ t a. Along f quads a₀ t₀ a t × (a ≤ 4)) (λ quads t₀ a₀ t a. 4 - a)
@@ -28,23 +28,23 @@ blamka-mixed-spec =
     (λ quads t₀ a b c₀ t c. Along f quads c₀ t₀ c t) (λ quads t₀ a b c₀ t c. 8 - c)
     (λ quads t₀ a b c d₀ t d. Along g quads d₀ t₀ d t) (λ quads t₀ a b c d₀ t d. 8 - d)
     (omega arith)
-    (λ c. (along_none f c.quads.ensures (omega arith), omega arith)) (omega arith) (omega arith)
-    (λ c κs. omega (arith, along_inside f c.before.before.before.loop.invariant.0 (omega arith))) (omega arith) (omega arith)
-    (λ c. (along_again f c.before.before.before.before.loop.invariant.0 (omega arith) c.apply-half.ensures, omega arith))
-    (λ c. (along_none g c.before.loop.invariant.0.whole (omega arith), omega arith)) (omega arith) (omega arith)
-    (λ c κs. omega (arith, along_inside g c.before.before.before.loop2.invariant.0 (omega arith))) (omega arith) (omega arith)
-    (λ c. (along_again g c.before.before.before.before.loop2.invariant.0 (omega arith) c.apply-half2.ensures, omega arith))
-    (λ c. along_none f c.before.loop2.invariant.0.whole (omega arith)) (omega arith) (omega arith)
-    (λ c κs. omega (arith, along_inside f c.before.before.before.loop3.invariant (omega arith))) (omega arith) (omega arith)
-    (λ c. along_again f c.before.before.before.before.loop3.invariant (omega arith) c.apply-half3.ensures)
-    (λ c. along_none g c.before.loop3.invariant.whole (omega arith)) (omega arith) (omega arith)
-    (λ c κs. omega (arith, along_inside g c.before.before.before.loop4.invariant (omega arith))) (omega arith) (omega arith)
-    (λ c. along_again g c.before.before.before.before.loop4.invariant (omega arith) c.apply-half4.ensures)
+    (λ c. (along_none f c.quads-quads.ensures (omega arith), omega arith)) (omega arith) (omega arith)
+    (λ c κs. omega (arith, along_inside f c.before.before.before.loop-a.invariant.0 (omega arith))) (omega arith) (omega arith)
+    (λ c. (along_again f c.before.before.before.before.loop-a.invariant.0 (omega arith) c.apply_half.ensures, omega arith))
+    (λ c. (along_none g c.before.loop-a.invariant.0.whole (omega arith), omega arith)) (omega arith) (omega arith)
+    (λ c κs. omega (arith, along_inside g c.before.before.before.loop-b.invariant.0 (omega arith))) (omega arith) (omega arith)
+    (λ c. (along_again g c.before.before.before.before.loop-b.invariant.0 (omega arith) c.apply_half-in-loop-b.ensures, omega arith))
+    (λ c. along_none f c.before.loop-b.invariant.0.whole (omega arith)) (omega arith) (omega arith)
+    (λ c κs. omega (arith, along_inside f c.before.before.before.loop-c.invariant (omega arith))) (omega arith) (omega arith)
+    (λ c. along_again f c.before.before.before.before.loop-c.invariant (omega arith) c.apply_half-in-loop-c.ensures)
+    (λ c. along_none g c.before.loop-c.invariant.whole (omega arith)) (omega arith) (omega arith)
+    (λ c κs. omega (arith, along_inside g c.before.before.before.loop-d.invariant (omega arith))) (omega arith) (omega arith)
+    (λ c. along_again g c.before.before.before.before.loop-d.invariant (omega arith) c.apply_half-in-loop-d.ensures)
     (λ c.
-    let d = c.before.loop4 in
-    let e = c.before.before.before.loop3 in
-    let h = c.before.before.before.before.before.loop2 in
-    let k = c.before.before.before.before.before.before.before.loop in
+    let d = c.before.loop-d in
+    let e = c.before.before.before.loop-c in
+    let h = c.before.before.before.before.before.loop-b in
+    let k = c.before.before.before.before.before.before.before.loop-a in
     all_diagonals g d.invariant (omega arith)
     ∙ ap (λ (t : List ℕ). at_all g t (drop 4 quads)) (all_diagonals f e.invariant (omega arith)
     ∙ ap (λ (t : List ℕ). at_all f t (drop 4 quads)) (all_columns g h.invariant.0 (omega arith)

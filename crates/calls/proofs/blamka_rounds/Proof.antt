@@ -8,10 +8,10 @@ use Rattle.permutation.specs.Round.{rounds}
 use Rattle.calls.proofs.blamka_rounds.Statement.{statement}
 use Rattle.calls.proofs.blamka_rounds.Tie as tie
 
-pub blamka-rounds-spec : {M : Type 1} → statement M
+pub blamka_rounds_spec : {M : Type 1} → statement M
 unfolding rounds
-blamka-rounds-spec =
+blamka_rounds_spec =
     tie.close
     (tie.spec (λ s₀ n k₀ s k. (k ≤ n) × (s ≡ rounds blamka_sum k s₀)) (λ s₀ n k₀ s k. n - k) (λ c. (omega arith, refl)) (omega arith) (omega arith)
     (omega arith) (λ c. (omega arith, rw add-one (cc)))
-    (λ c. let at_end : c.before.loop.k ≡ c.before.before.args.n = omega arith in cc))
+    (λ c. let at_end : c.before.loop-k.k ≡ c.before.before.args.n = omega arith in cc))

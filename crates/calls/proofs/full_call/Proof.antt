@@ -8,23 +8,23 @@ use Rattle.permutation.specs.Round.{rounds}
 use Rattle.calls.proofs.full_call.Statement.{statement}
 use Rattle.calls.proofs.full_call.Tie as tie
 
-abbrev invariant-loop : tie.invariant-loop
+abbrev invariant-loop : tie.invariant-loop-k
 invariant-loop s₀ mixer k₀ s k = (k ≤ 12) × (s ≡ rounds (sum_of mixer) k s₀)
 
-abbrev decreases-loop : tie.decreases-loop
+abbrev decreases-loop : tie.decreases-loop-k
 decreases-loop s₀ mixer k₀ s k = 12 - k
 
 -- by itself, so that a refusal elsewhere does not hide its own
-loop-again : tie.Need-loop-preserved invariant-loop decreases-loop
+loop-again : tie.Need-loop-k-preserved invariant-loop decreases-loop
 unfolding rounds
 loop-again c = (omega arith, rw add-one (cc))
 
-pub full-call-spec : {M : Type 1} → statement M
+pub full_call_spec : {M : Type 1} → statement M
 unfolding rounds
-full-call-spec =
+full_call_spec =
     tie.close
     (tie.spec invariant-loop decreases-loop (λ c. (omega arith, refl)) (omega arith) (omega arith) (omega arith) loop-again
     (λ c.
     let a = c.before.before.args in
-    let at_end : c.before.loop.k ≡ 12 = omega arith in
-    c.before.loop.invariant.1 ∙ ap (λ (k : ℕ). rounds (sum_of a.mixer) k a.state.now) at_end))
+    let at_end : c.before.loop-k.k ≡ 12 = omega arith in
+    c.before.loop-k.invariant.1 ∙ ap (λ (k : ℕ). rounds (sum_of a.mixer) k a.state.now) at_end))

@@ -7,11 +7,11 @@ use Rattle.permutation.specs.Round.{rounds}
 use Rattle.calls.proofs.reduced_call.Statement.{statement}
 use Rattle.calls.proofs.reduced_call.Tie as tie
 
-returns : tie.Need-returns
+returns : tie.Need-returns-then-n-eq-USUAL_ROUNDS
 unfolding rounds
 returns c =
     let a = c.before.before.before.args in
-    c.round.ensures ∙ ap (λ (n : ℕ). rounds (sum_of a.mixer) n a.s.now) (sym c.before.before.if1.true)
+    c.round.ensures ∙ ap (λ (n : ℕ). rounds (sum_of a.mixer) n a.s.now) (sym c.before.before.if-n-eq-USUAL_ROUNDS.true)
 
-pub reduced-call-spec : {M : Type 1} → statement M
-reduced-call-spec = tie.close (tie.spec (omega arith) (omega arith) returns (λ c. c.rounds.ensures))
+pub reduced_call_spec : {M : Type 1} → statement M
+reduced_call_spec = tie.close (tie.spec (omega arith) (omega arith) returns (λ c. c.rounds.ensures))

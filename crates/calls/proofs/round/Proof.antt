@@ -8,13 +8,13 @@ use Rattle.permutation.specs.Round.{round}
 use Rattle.calls.proofs.round.Statement.{statement}
 use Rattle.calls.proofs.round.Tie as tie
 
-pub round-spec : {M : Type 1} → statement M
-round-spec =
+pub round_spec : {M : Type 1} → statement M
+round_spec =
     tie.close
     (tie.spec (λ c. search rules) (omega arith) (λ c. search rules) (omega arith)
     (λ c.
-    c.plain-round.ensures
-    ∙ ap (λ (x : Mixer). round (sum_of x) c.before.before.before.before.args.s.now) (sym c.before.before.enum_told.given.1))
+    c.plain_round.ensures
+    ∙ ap (λ (x : Mixer). round (sum_of x) c.args.s.now) (sym c.in-Plain.is))
     (λ c.
-    c.blamka-round.ensures
-    ∙ ap (λ (x : Mixer). round (sum_of x) c.before.before.before.before.args.s.now) (sym c.before.before.enum-told2.given.1)))
+    c.blamka_round.ensures
+    ∙ ap (λ (x : Mixer). round (sum_of x) c.args.s.now) (sym c.in-BlaMka.is)))

@@ -8,13 +8,13 @@ use Rattle.permutation.specs.Round.{rounds}
 use Rattle.calls.proofs.rounds.Statement.{statement}
 use Rattle.calls.proofs.rounds.Tie as tie
 
-pub rounds-spec : {M : Type 1} → statement M
-rounds-spec =
+pub rounds_spec : {M : Type 1} → statement M
+rounds_spec =
     tie.close
     (tie.spec (λ c. search rules) (omega arith) (λ c. search rules) (omega arith)
     (λ c.
-    let a = c.before.before.before.before.args in
-    c.plain-rounds.ensures ∙ ap (λ (x : Mixer). rounds (sum_of x) a.n a.s.now) (sym c.before.before.enum_told.given.1))
+    let a = c.args in
+    c.plain_rounds.ensures ∙ ap (λ (x : Mixer). rounds (sum_of x) a.n a.s.now) (sym c.in-Plain.is))
     (λ c.
-    let a = c.before.before.before.before.args in
-    c.blamka-rounds.ensures ∙ ap (λ (x : Mixer). rounds (sum_of x) a.n a.s.now) (sym c.before.before.enum-told2.given.1)))
+    let a = c.args in
+    c.blamka_rounds.ensures ∙ ap (λ (x : Mixer). rounds (sum_of x) a.n a.s.now) (sym c.in-BlaMka.is)))

@@ -8,16 +8,16 @@ use Rattle.cell_sums.proofs.Sums.{length_sum, sum_at}
 use Rattle.cell_sums.proofs.xor_sum3.Statement.{statement}
 use Rattle.cell_sums.proofs.xor_sum3.Tie as tie
 
-pub xor-sum3-spec : {M : Type 1} → statement M
+pub xor_sum3_spec : {M : Type 1} → statement M
 unfolding zip_at
-xor-sum3-spec =
+xor_sum3_spec =
     tie.close
     (tie.spec (λ s₀ a b c j₀ s j. Placed bit_xor 0 s₀ (cell_sum (cell_sum a b) c) s j 12) (λ s₀ a b c j₀ s j. 12 - j)
     (λ c. placed_none bit_xor (length_sum 12 _ _ (length_sum 12 _ _ (search)))) (omega arith) (omega arith) (omega arith)
     (omega arith) (omega arith) (omega arith) (omega arith) (omega arith) (omega arith) (omega arith) (omega arith)
     (omega arith) (omega arith)
-    (λ c. placed_again bit_xor c.before.before.before.before.before.before.loop.invariant (omega arith) (omega arith)
+    (λ c. placed_again bit_xor c.before.before.before.before.before.before.loop-j.invariant (omega arith) (omega arith)
     (c.sum3.ensures
     ∙ sum_at 12 _ _ (length_sum 12 _ _ (search)) (search) _ _ _ (omega arith)
     (sum_at 12 _ _ (search) (search) _ _ _ (omega arith) refl refl) refl))
-    (λ c. placed_end bit_xor c.before.loop.invariant (omega arith)))
+    (λ c. placed_end bit_xor c.before.loop-j.invariant (omega arith)))

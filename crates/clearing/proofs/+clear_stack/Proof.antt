@@ -22,8 +22,8 @@ abbrev clear-stack-below : ℕ → In 0 clear-stack-kinds.ps
 clear-stack-below t =
     and 0 clear-stack-kinds.ps (falls 0 clear-stack-kinds.ps ◌<◌ μ-clear-stack t) clear-stack.Pre
 
-pub +clear-stack-spec : {M : Type 1} → statement M
-+clear-stack-spec =
+pub +clear_stack_spec : {M : Type 1} → statement M
++clear_stack_spec =
     close μ-clear-stack
     (λ t. clear-stack-lts.spec (clear-stack-below t, clear-stack.Post) (clear-stack-at t) clear-stack.Post (omega arith) (omega arith) (omega arith)
-    (omega arith) (omega arith) (omega arith) (λ c. get_or-replicate 17 (c.clear-stack.result % 17) c.before.before.args.zero 0 (omega arith) ∙ c.before.before.requires.1))
+    (omega arith) (omega arith) (omega arith) (λ c. get_or-replicate 17 (c.clear_stack-below.result % 17) c.before.before.args.zero 0 (omega arith) ∙ c.before.before.requires.1))

@@ -15,5 +15,5 @@ clear_spec =
     tie.close
     (tie.spec (λ words₀ n zero j₀ words j. Placed put 0 words₀ (replicate n 0) words j n) (λ words₀ n zero j₀ words j. length words₀ - j)
     (λ c. placed_none put (length-replicate _ 0)) (omega arith) (omega arith) (omega arith) (omega arith)
-    (λ c. placed_again put c.before.loop.invariant (omega arith) (omega arith) (c.before.before.requires.1 ∙ sym (get_or-replicate c.before.before.args.n c.before.loop.j 0 0 (omega arith))))
-    (λ c. c.before.loop.invariant.long) (λ c. placed_end put c.before.loop.invariant (omega arith)))
+    (λ c. placed_again put c.before.loop-j.invariant (omega arith) (omega arith) (c.before.before.requires.1 ∙ sym (get_or-replicate c.before.before.args.n c.before.loop-j.j 0 0 (omega arith))))
+    (λ c. c.before.loop-j.invariant.long) (λ c. placed_end put c.before.loop-j.invariant (omega arith)))

@@ -17,18 +17,18 @@ use Rattle.clearing.proofs.clear_run.Tie as tie
 still-zeros : (x : Mixer) (n : ℕ) {s t : List ℕ} → s ≡ replicate state_words 0 → t ≡ rounds (sum_of x) n s → t ≡ replicate state_words 0
 still-zeros x n e f = f ∙ ap (rounds (sum_of x) n) e ∙ rounds_zeros (sum_of x) (sum_of_zeros x) n
 
-pub clear-run-spec : {M : Type 1} → statement M
-clear-run-spec =
+pub clear_run_spec : {M : Type 1} → statement M
+clear_run_spec =
     tie.close
     (tie.spec (omega arith) (λ c κs. tt) (omega arith) (omega arith)
     (λ c κs.
     let state = c.before.before.before.before.before in
     let a = state.before.before.args in
-    ap (λ (l : List ℕ). get_or l 0 0) (still-zeros a.mixer a.n state.clear-state.ensures.1 c.before.rounds.ensures))
+    ap (λ (l : List ℕ). get_or l 0 0) (still-zeros a.mixer a.n state.clear_state-kept.ensures.1 c.before.rounds.ensures))
     (λ c. search rules)
     (λ c.
     let state = c.before.before.before.before.before.before in
     let a = state.before.before.args in
-    let zeroed = state.clear-state.ensures in
-    (omega (arith, zeroed.0, c.clear-stack.ensures), still-zeros a.mixer a.n zeroed.1 c.before.before.rounds.ensures))
+    let zeroed = state.clear_state-kept.ensures in
+    (omega (arith, zeroed.0, c.clear_stack.ensures), still-zeros a.mixer a.n zeroed.1 c.before.before.rounds.ensures))
     (λ c. search rules))

@@ -14,8 +14,8 @@ use Rattle.clearing.proofs.clear_state.Tie as tie
 zero_word : {s : List ℕ} → s ≡ round plain_sum (replicate state_words 0) → get_or s 0 0 ≡ 0
 zero_word e = ap (λ (l : List ℕ). get_or l 0 0) (e ∙ round_zeros plain_sum refl)
 
-pub clear-state-spec : {M : Type 1} → statement M
-clear-state-spec =
+pub clear_state_spec : {M : Type 1} → statement M
+clear_state_spec =
     tie.close
-    (tie.spec (omega arith) (omega arith) (λ c. omega (arith, zero_word c.before.plain-round.ensures))
-    (λ c. (omega (arith, zero_word c.before.plain-round.ensures), c.before.plain-round.ensures ∙ round_zeros plain_sum refl)))
+    (tie.spec (omega arith) (omega arith) (λ c. omega (arith, zero_word c.before.plain_round.ensures))
+    (λ c. (omega (arith, zero_word c.before.plain_round.ensures), c.before.plain_round.ensures ∙ round_zeros plain_sum refl)))

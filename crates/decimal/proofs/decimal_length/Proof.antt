@@ -4,8 +4,8 @@ use Rattle.decimal.proofs.Decimal.{decimal_one, decimal-length_is}
 use Rattle.decimal.proofs.decimal_length.Statement.{statement}
 use Rattle.decimal.proofs.decimal_length.Tie as tie
 
-pub decimal-length-spec : {M : Type 1} → statement M
-decimal-length-spec =
+pub decimal_length_spec : {M : Type 1} → statement M
+decimal_length_spec =
     tie.close
     (tie.spec (λ c. decimal_one _ (omega arith)) (λ c. decimal-length_is 1 _ (omega arith) (omega arith)) (λ c. decimal-length_is 2 _ (omega arith) (omega arith))
     (λ c. decimal-length_is 3 _ (omega arith) (omega arith)) (λ c. decimal-length_is 4 _ (omega arith) (omega arith)))

@@ -7,9 +7,9 @@ use Rattle.decimal.specs.Decimal.{is_number}
 use Rattle.decimal.proofs.is_number.Statement.{statement}
 use Rattle.decimal.proofs.is_number.Tie as tie
 
-pub is-number-spec : {M : Type 1} → statement M
+pub is_number_spec : {M : Type 1} → statement M
 unfolding is_number
-is-number-spec =
+is_number_spec =
     tie.close
     (tie.spec (λ c. simp (lt-leb 1 (length c.before.before.args.text.now) (omega arith)))
     (λ c κs. tt)
@@ -24,4 +24,4 @@ is-number-spec =
     (λ c.
     let text = c.before.before.before.before.before.before.args.text.now in
     simp (le-leb 1 (length text) (omega arith), ne_eqb (length text) 1 (λ e. omega arith), ne_eqb (get_or text 0 0) 48 (λ e. omega arith))
-    c.all-digits2.ensures))
+    c.all_digits-2.ensures))

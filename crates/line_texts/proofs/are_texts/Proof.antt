@@ -3,7 +3,7 @@ use mathlib.Core.Path.{ap, ◌∙◌}
 use mathlib.Core.Bool.{◌&&◌}
 use native.Mathlib.Omega.{arith}
 use Rattle.decimal.specs.Decimal.{is_number}
-use Rattle.base64.specs.Base64.{is_text}
+use Rattle.base64_encoding.specs.Base64.{is_text}
 use Rattle.line_texts.specs.Texts.{are_texts}
 use Rattle.line_texts.proofs.TextLaws.{time_part, rows_part, columns_part, salt_part, key_part}
 use Rattle.line_texts.proofs.are_texts.Statement.{statement}

@@ -1,6 +1,6 @@
 -- `put_line` meets its contract: three numbers and two texts, one after another. Assumes nothing.
 use native.Mathlib.Omega.{arith}
-use Rattle.base64.proofs.Elements.{length-encode}
+use Rattle.base64_encoding.proofs.Elements.{length-encode}
 use Rattle.text.proofs.Appending.{◌then◌, reworded}
 use Rattle.line_form.specs.Line.{length_by}
 use Rattle.line_writing.specs.Values.{values}

@@ -15,18 +15,18 @@ use Rattle.matrix.proofs.write_rotated.Tie as tie
 returns : tie.Need-returns
 unfolding cell_from
 returns c =
-    let start = c.before.before.before.before.before.before.before.before.before.before.before.before.before.before.before.before in
+    let start = c in
     let a = start.args in
     let s = a.s.now in
-    let out = c.before.before.before.before.before.before.before.before.before.before.before.before.before.before.output.ensures in
-    let turned = c.before.before.before.before.before.before.before.before.before.before.before.xor-rotated.ensures in
-    let words = c.before.before.before.before.before.xored.ensures ∙ (λ i. xor_into (take (add-sub_cancel_left a.from 12 i) (drop a.from (turned i))) (out i)) in
-    c.before.before.put-cell.ensures ∙ (λ i. zip_at (λ (x y : ℕ). y) a.to (turned i) (words i))
+    let out = c.output-rand.ensures in
+    let turned = c.xor_rotated.ensures in
+    let words = c.xored-words.ensures ∙ (λ i. xor_into (take (add-sub_cancel_left a.from 12 i) (drop a.from (turned i))) (out i)) in
+    c.put_cell.ensures ∙ (λ i. zip_at (λ (x y : ℕ). y) a.to (turned i) (words i))
     ∙ either_order a.from a.to a.back a.m.now (rand s) (rotated a.omega (rand s)) (length-rand s) (length-rotated a.omega (rand s)) start.requires.1
 
-pub write-rotated-spec : {M : Type 1} → statement M
-write-rotated-spec =
+pub write_rotated_spec : {M : Type 1} → statement M
+write_rotated_spec =
     tie.close
     (tie.spec (omega arith) (omega arith)
-    (λ c κs. (omega arith, omega arith, c.before.before.output.ensures))
+    (λ c κs. (omega arith, omega arith, c.output-rand.ensures))
     (omega arith) (omega arith) (omega arith) (omega arith) (omega arith) (omega arith) (omega arith) (omega arith) (omega arith) (omega arith) returns)

@@ -7,11 +7,11 @@ use Rattle.lists.proofs.Placed.{Placed, placed_none, placed_again, placed_end}
 use Rattle.matrix.proofs.xor_cell.Statement.{statement}
 use Rattle.matrix.proofs.xor_cell.Tie as tie
 
-pub xor-cell-spec : {M : Type 1} → statement M
-xor-cell-spec =
+pub xor_cell_spec : {M : Type 1} → statement M
+xor_cell_spec =
     tie.close
     (tie.spec (λ m₀ a words j₀ m j. Placed bit_xor a m₀ words m j 12) (λ m₀ a words j₀ m j. 12 - j)
     (λ c. placed_none bit_xor (search)) (omega arith) (omega arith) (omega arith) (omega arith) (omega arith) (omega arith)
     (omega arith) (omega arith) (omega arith) (omega arith)
-    (λ c. placed_again bit_xor c.before.before.before.loop.invariant (omega arith) (omega arith) refl)
-    (λ c. c.before.loop.invariant.long) (λ c. placed_end bit_xor c.before.loop.invariant (omega arith)))
+    (λ c. placed_again bit_xor c.before.before.before.loop-j.invariant (omega arith) (omega arith) refl)
+    (λ c. c.before.loop-j.invariant.long) (λ c. placed_end bit_xor c.before.loop-j.invariant (omega arith)))

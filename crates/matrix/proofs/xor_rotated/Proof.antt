@@ -15,19 +15,19 @@ turned : (a : ℕ) (m s : List ℕ) {ω k : ℕ} {words after : List ℕ} → ω
     → after ≡ zip_at bit_xor a m (rotated ω (rand s))
 turned a m s e copied f = f ∙ (λ i. zip_at bit_xor a m (rotated (sym e i) (copied i)))
 
-pub xor-rotated-spec : {M : Type 1} → statement M
-xor-rotated-spec =
+pub xor_rotated_spec : {M : Type 1} → statement M
+xor_rotated_spec =
     tie.close
     (tie.spec (omega arith) (omega arith) (omega arith) (omega arith) (omega arith) (omega arith) (omega arith) (omega arith) (omega arith) (omega arith) (omega arith) (omega arith)
-    (omega arith) (λ c. turned _ _ _ c.before.before.before.before.match.keys1 c.before.before.before.before.before.before.before.requires.2 c.before.before.xor-turned.ensures)
-    (omega arith) (λ c. turned _ _ _ c.before.before.before.before.match.keys2 c.before.before.before.before.before.before.before.requires.2 c.before.before.xor-turned2.ensures)
-    (omega arith) (λ c. turned _ _ _ c.before.before.before.before.match.keys3 c.before.before.before.before.before.before.before.requires.2 c.before.before.xor-turned3.ensures)
-    (omega arith) (λ c. turned _ _ _ c.before.before.before.before.match.keys4 c.before.before.before.before.before.before.before.requires.2 c.before.before.xor-turned4.ensures)
-    (omega arith) (λ c. turned _ _ _ c.before.before.before.before.match.keys5 c.before.before.before.before.before.before.before.requires.2 c.before.before.xor-turned5.ensures)
-    (omega arith) (λ c. turned _ _ _ c.before.before.before.before.match.keys6 c.before.before.before.before.before.before.before.requires.2 c.before.before.xor-turned6.ensures)
-    (omega arith) (λ c. turned _ _ _ c.before.before.before.before.match.keys7 c.before.before.before.before.before.before.before.requires.2 c.before.before.xor-turned7.ensures)
-    (omega arith) (λ c. turned _ _ _ c.before.before.before.before.match.keys8 c.before.before.before.before.before.before.before.requires.2 c.before.before.xor-turned8.ensures)
-    (omega arith) (λ c. turned _ _ _ c.before.before.before.before.match.keys9 c.before.before.before.before.before.before.before.requires.2 c.before.before.xor-turned9.ensures)
-    (omega arith) (λ c. turned _ _ _ c.before.before.before.before.match.keys10 c.before.before.before.before.before.before.before.requires.2 c.before.before.xor-turned10.ensures)
-    (omega arith) (λ c. turned _ _ _ c.before.before.before.before.match.keys11 c.before.before.before.before.before.before.before.requires.2 c.before.before.xor-turned11.ensures)
-    (omega arith) (λ c. c.before.before.xor-turned12.ensures ∙ ap (zip_at bit_xor _ _) (rotated_state _ _)))
+    (omega arith) (λ c. turned _ _ _ c.before.before.before.before.in-1.is c.before.before.before.before.before.before.before.requires.2 c.before.before.xor_turned.ensures)
+    (omega arith) (λ c. turned _ _ _ c.before.before.before.before.in-2.is c.before.before.before.before.before.before.before.requires.2 c.before.before.xor_turned-in-2.ensures)
+    (omega arith) (λ c. turned _ _ _ c.before.before.before.before.in-3.is c.before.before.before.before.before.before.before.requires.2 c.before.before.xor_turned-in-3.ensures)
+    (omega arith) (λ c. turned _ _ _ c.before.before.before.before.in-4.is c.before.before.before.before.before.before.before.requires.2 c.before.before.xor_turned-in-4.ensures)
+    (omega arith) (λ c. turned _ _ _ c.before.before.before.before.in-5.is c.before.before.before.before.before.before.before.requires.2 c.before.before.xor_turned-in-5.ensures)
+    (omega arith) (λ c. turned _ _ _ c.before.before.before.before.in-6.is c.before.before.before.before.before.before.before.requires.2 c.before.before.xor_turned-in-6.ensures)
+    (omega arith) (λ c. turned _ _ _ c.before.before.before.before.in-7.is c.before.before.before.before.before.before.before.requires.2 c.before.before.xor_turned-in-7.ensures)
+    (omega arith) (λ c. turned _ _ _ c.before.before.before.before.in-8.is c.before.before.before.before.before.before.before.requires.2 c.before.before.xor_turned-in-8.ensures)
+    (omega arith) (λ c. turned _ _ _ c.before.before.before.before.in-9.is c.before.before.before.before.before.before.before.requires.2 c.before.before.xor_turned-in-9.ensures)
+    (omega arith) (λ c. turned _ _ _ c.before.before.before.before.in-10.is c.before.before.before.before.before.before.before.requires.2 c.before.before.xor_turned-in-10.ensures)
+    (omega arith) (λ c. turned _ _ _ c.before.before.before.before.in-11.is c.before.before.before.before.before.before.before.requires.2 c.before.before.xor_turned-in-11.ensures)
+    (omega arith) (λ c. c.before.before.xor_turned-in_default.ensures ∙ ap (zip_at bit_xor _ _) (rotated_state _ _)))

@@ -9,11 +9,11 @@ use Rattle.matrix.proofs.CellLaws.{length-rotated, get_or-rotated}
 use Rattle.matrix.proofs.xor_turned.Statement.{statement}
 use Rattle.matrix.proofs.xor_turned.Tie as tie
 
-pub xor-turned-spec : {M : Type 1} → statement M
-xor-turned-spec =
+pub xor_turned_spec : {M : Type 1} → statement M
+xor_turned_spec =
     tie.close
     (tie.spec (λ m₀ a words by j₀ m j. Placed bit_xor a m₀ (rotated by words) m j 12) (λ m₀ a words by j₀ m j. 12 - j)
     (λ c. placed_none bit_xor (length-rotated _ _)) (omega arith) (omega arith) (omega arith) (omega arith) (omega arith)
     (omega arith) (omega arith) (omega arith) (omega arith) (omega arith) (omega arith)
-    (λ c. placed_again bit_xor c.before.before.before.loop.invariant (omega arith) (omega arith) (sym (get_or-rotated _ _ _ (omega arith))))
-    (λ c. c.before.loop.invariant.long) (λ c. placed_end bit_xor c.before.loop.invariant (omega arith)))
+    (λ c. placed_again bit_xor c.before.before.before.loop-j.invariant (omega arith) (omega arith) (sym (get_or-rotated _ _ _ (omega arith))))
+    (λ c. c.before.loop-j.invariant.long) (λ c. placed_end bit_xor c.before.loop-j.invariant (omega arith)))

@@ -5,12 +5,12 @@ use Rattle.padded_input.proofs.Padded.{password_at, salt_at, number_at_lem, padd
 use Rattle.padded_input.proofs.input_byte.Statement.{statement}
 use Rattle.padded_input.proofs.input_byte.Tie as tie
 
-pub input-byte-spec : {M : Type 1} → statement M
-input-byte-spec =
+pub input_byte_spec : {M : Type 1} → statement M
+input_byte_spec =
     tie.close
     (tie.spec (omega arith) (λ c. password_at _ _ _ _ (omega arith))
     (omega arith) (omega arith) (λ c. salt_at _ _ _ _ _ (omega arith) (omega arith))
     (omega arith) (omega arith) (omega arith) (omega arith) (omega arith)
     (λ c. c.byte_of.ensures ∙ number_at_lem _ _ _ _ _ _ (omega arith) (omega arith) (omega arith))
     (omega arith) (omega arith) (omega arith) (omega arith)
-    (λ c. c.padding-byte.ensures ∙ padding_at _ _ _ _ _ _ (omega arith) (omega arith)))
+    (λ c. c.padding_byte.ensures ∙ padding_at _ _ _ _ _ _ (omega arith) (omega arith)))

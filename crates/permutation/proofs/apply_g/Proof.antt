@@ -6,10 +6,10 @@ use Rattle.permutation.proofs.Along.{applied}
 use Rattle.permutation.proofs.apply_g.Statement.{statement}
 use Rattle.permutation.proofs.apply_g.Tie as tie
 
-pub apply-g-spec : {M : Type 1} → statement M
-apply-g-spec =
+pub apply_g_spec : {M : Type 1} → statement M
+apply_g_spec =
     tie.close
     (tie.spec (omega arith) (omega arith) (omega arith)
     (λ c.
-    let a = c.before.before.before.before.before.args in
-    applied (G plain_sum) a.q a.s.now c.before.before.before.words-at.ensures c.before.before.g.ensures c.put-words.ensures))
+    let a = c.args in
+    applied (G plain_sum) a.q a.s.now c.words_at.ensures c.g-w.ensures c.put_words.ensures))

@@ -11,31 +11,31 @@ use Rattle.permutation.proofs.Along.{Along, along_none, along_inside, along_agai
 use Rattle.permutation.proofs.plain_rounds.Statement.{statement}
 use Rattle.permutation.proofs.plain_rounds.Tie as tie
 
-abbrev invariant-loop2 : tie.invariant-loop2
+abbrev invariant-loop2 : tie.invariant-loop-i
 invariant-loop2 s n quads t₀ k i₀ t i = Along (G plain_sum) quads i₀ t₀ i t
 
-abbrev decreases-loop2 : tie.decreases-loop2
+abbrev decreases-loop2 : tie.decreases-loop-i
 decreases-loop2 s n quads t₀ k i₀ t i = 8 - i
 
-abbrev invariant-loop : tie.invariant-loop
+abbrev invariant-loop : tie.invariant-loop-k
 invariant-loop s n quads t₀ k₀ t k = (k ≤ n) × (t ≡ rounds plain_sum k t₀)
 
-abbrev decreases-loop : tie.decreases-loop
+abbrev decreases-loop : tie.decreases-loop-k
 decreases-loop s n quads t₀ k₀ t k = n - k
 
 -- by itself, so that a refusal elsewhere does not hide its own
-loop-again : tie.Need-loop-preserved invariant-loop2 decreases-loop2 invariant-loop decreases-loop
+loop-again : tie.Need-loop-k-preserved invariant-loop2 decreases-loop2 invariant-loop decreases-loop
 unfolding rounds
 loop-again c =
-    (omega arith, rw add-one (all_quads plain_sum c.before.loop2.invariant (omega arith) ∙ ap (round plain_sum) c.before.before.before.loop.invariant.1))
+    (omega arith, rw add-one (all_quads plain_sum c.before.loop-i.invariant (omega arith) ∙ ap (round plain_sum) c.before.before.before.loop-k.invariant.1))
 
-pub plain-rounds-spec : {M : Type 1} → statement M
+pub plain_rounds_spec : {M : Type 1} → statement M
 unfolding rounds
-plain-rounds-spec =
+plain_rounds_spec =
     tie.close
-    (tie.spec invariant-loop2 decreases-loop2 invariant-loop decreases-loop (omega arith) (λ c. (omega arith, refl)) (λ c. along_none _ c.before.before.before.quads.ensures (omega arith)) (omega arith) (omega arith)
-    (λ c κs. omega (arith, along_inside _ c.before.before.before.loop2.invariant (omega arith)))
+    (tie.spec invariant-loop2 decreases-loop2 invariant-loop decreases-loop (omega arith) (λ c. (omega arith, refl)) (λ c. along_none _ c.before.before.before.quads-quads.ensures (omega arith)) (omega arith) (omega arith)
+    (λ c κs. omega (arith, along_inside _ c.before.before.before.loop-i.invariant (omega arith)))
     (omega arith) (omega arith)
-    (λ c. along_again _ c.before.before.before.before.loop2.invariant (omega arith) c.apply-g.ensures)
+    (λ c. along_again _ c.before.before.before.before.loop-i.invariant (omega arith) c.apply_g.ensures)
     (omega arith) (omega arith) loop-again
-    (λ c. let at_end : c.before.loop.k ≡ c.before.before.before.before.args.n = omega arith in cc))
+    (λ c. let at_end : c.before.loop-k.k ≡ c.before.before.before.before.args.n = omega arith in cc))

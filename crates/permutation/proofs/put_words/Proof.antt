@@ -5,8 +5,8 @@ use Rattle.permutation.specs.Round.{put_words}
 use Rattle.permutation.proofs.put_words.Statement.{statement}
 use Rattle.permutation.proofs.put_words.Tie as tie
 
-pub put-words-spec : {M : Type 1} → statement M
+pub put_words_spec : {M : Type 1} → statement M
 unfolding put_words
-put-words-spec =
+put_words_spec =
     tie.close
     (tie.spec (omega arith) (omega arith) (omega arith) (omega arith) (omega arith) (omega arith) (omega arith) (omega arith) (λ c. refl))

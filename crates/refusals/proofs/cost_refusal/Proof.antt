@@ -16,17 +16,17 @@ returns key =
     let rows = time.before.before in
     let columns = rows.before.before in
     let rounds = columns.before.before in
-    first_of_is (key_check _) _ key.before.outside7.ensures key.first-of8.ensures
-    (first_of_is (password_check _) _ password.before.outside6.ensures password.first-of7.ensures
-    (first_of_is (short_salt_check _) _ short.before.below.ensures short.first-of6.ensures
-    (first_of_is (long_salt_check _) _ long.before.outside5.ensures long.first-of5.ensures
-    (first_of_is (time_check _) _ time.before.outside4.ensures time.first-of4.ensures
-    (first_of_is (rows_check _) _ rows.before.outside3.ensures rows.first-of3.ensures
-    (first_of_is (columns_check _) _ columns.before.outside2.ensures columns.first-of2.ensures
-    (first_of_is (rounds_check _) _ rounds.before.outside.ensures rounds.first_of.ensures first_none)))))))
+    first_of_is (key_check _) _ key.before.outside-7.ensures key.first_of.ensures
+    (first_of_is (password_check _) _ password.before.outside-6.ensures password.first_of-later-7.ensures
+    (first_of_is (short_salt_check _) _ short.before.below.ensures short.first_of-later-6.ensures
+    (first_of_is (long_salt_check _) _ long.before.outside-5.ensures long.first_of-later-5.ensures
+    (first_of_is (time_check _) _ time.before.outside-4.ensures time.first_of-later-4.ensures
+    (first_of_is (rows_check _) _ rows.before.outside-3.ensures rows.first_of-later-3.ensures
+    (first_of_is (columns_check _) _ columns.before.outside-2.ensures columns.first_of-later-2.ensures
+    (first_of_is (rounds_check _) _ rounds.before.outside.ensures rounds.first_of-later.ensures first_none)))))))
 
-pub cost-refusal-spec : {M : Type 1} → statement M
-cost-refusal-spec =
+pub cost_refusal_spec : {M : Type 1} → statement M
+cost_refusal_spec =
     tie.close
     (tie.spec (omega arith) (omega arith) (omega arith) (omega arith) (omega arith) (omega arith) (omega arith) (omega arith)
     (omega arith) (omega arith) (omega arith) (omega arith) (omega arith) (omega arith) (omega arith) (omega arith) returns)

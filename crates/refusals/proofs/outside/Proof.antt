@@ -4,6 +4,6 @@ use Rattle.refusals.proofs.Accepted.{alone}
 use Rattle.refusals.proofs.outside.Statement.{statement}
 use Rattle.refusals.proofs.outside.Tie as tie
 
-pub outside-spec : {M : Type 1} → statement M
-outside-spec =
-    tie.close (tie.spec (λ c. simp (lt-ltb _ _ c.if1.true)) (λ c. simp (le-ltb _ _ c.if1.false) (alone _)))
+pub outside_spec : {M : Type 1} → statement M
+outside_spec =
+    tie.close (tie.spec (λ c. simp (lt-ltb _ _ c.if-x-least.true)) (λ c. simp (le-ltb _ _ c.if-x-least.false) (alone _)))

@@ -5,12 +5,12 @@ use Rattle.refusals.specs.Checks.{first, cost_checks, stored_checks}
 use Rattle.refusals.proofs.stored_refusal.Statement.{statement}
 use Rattle.refusals.proofs.stored_refusal.Tie as tie
 
-pub stored-refusal-spec : {M : Type 1} → statement M
+pub stored_refusal_spec : {M : Type 1} → statement M
 unfolding first cost_checks stored_checks
-stored-refusal-spec =
+stored_refusal_spec =
     tie.close
     (tie.spec (λ c κs. tt) (λ c κs. tt)
     (λ c.
     let a = c.before.before.args in
-    c.cost-refusal.ensures
+    c.cost_refusal.ensures
     ∙ ap (λ (p : Parameters). first (cost_checks (record { key = a.key; password = 0; salt = a.salt }) p)) c.before.usual.ensures))

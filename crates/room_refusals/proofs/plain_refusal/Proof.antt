@@ -21,26 +21,26 @@ cells l p e =
 abbrev later : Parameters → ℕ → List Check
 later p matrix = rotation_check p.rotation ∷ matrix_check p matrix ∷ []
 
-returns : tie.Need-returns
+returns : tie.Need-returns-then-number-ne0
 unfolding plain_checks
 returns c =
     let a = c.before.before.args in
-    more_refuse (cost_checks a.l a.p) (later a.p a.matrix) c.before.cost-refusal.ensures c.if1.true
+    more_refuse (cost_checks a.l a.p) (later a.p a.matrix) c.before.cost_refusal-number.ensures c.if-number-ne0.true
 
-returns-2 : tie.Need-returns-2
+returns-2 : tie.Need-returns
 unfolding plain_checks cost_checks
 returns-2 c =
     let matrix = c.before.before in
     let checked = matrix.before.before.before in
     let a = checked.before.before.args in
-    let short = matrix.before.below.ensures ∙ ap (λ (n : ℕ). broken (n ≤? a.matrix ∷ [])) matrix.before.before.matrix-words.ensures in
-    more_pass (cost_checks a.l a.p) (later a.p a.matrix) checked.before.cost-refusal.ensures
-    (omega arith) checked.if1.false
-    (first_of_is (rotation_check _) _ c.before.outside.ensures c.first-of2.ensures (first_of_is (matrix_check a.p _) _ short matrix.first_of.ensures first_none))
+    let short = matrix.before.below.ensures ∙ ap (λ (n : ℕ). broken (n ≤? a.matrix ∷ [])) matrix.before.before.matrix_words.ensures in
+    more_pass (cost_checks a.l a.p) (later a.p a.matrix) checked.before.cost_refusal-number.ensures
+    (omega arith) checked.if-number-ne0.false
+    (first_of_is (rotation_check _) _ c.before.outside.ensures c.first_of.ensures (first_of_is (matrix_check a.p _) _ short matrix.first_of-later.ensures first_none))
 
-pub plain-refusal-spec : {M : Type 1} → statement M
-plain-refusal-spec =
+pub plain_refusal_spec : {M : Type 1} → statement M
+plain_refusal_spec =
     tie.close
     (tie.spec (omega arith) returns
-    (λ c κs. omega (arith, cells _ _ (sym c.before.cost-refusal.ensures ∙ c.if1.false)))
+    (λ c κs. omega (arith, cells _ _ (sym c.before.cost_refusal-number.ensures ∙ c.if-number-ne0.false)))
     (omega arith) (omega arith) (omega arith) (omega arith) returns-2)

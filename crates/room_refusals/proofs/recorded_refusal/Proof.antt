@@ -18,26 +18,26 @@ visited l p m e =
     let bounds = accepted (plain_checks l p m) (omega arith) e in
     (omega arith, visits_most p.rows p.time (omega arith) (omega arith), record_most p.rows p.time p.columns (omega arith) (omega arith) (omega arith))
 
-returns : tie.Need-returns
+returns : tie.Need-returns-then-number-ne0
 unfolding recorded_checks
 returns c =
     let a = c.before.before.args in
-    more_refuse (plain_checks a.l a.p a.matrix) (record_check a.p a.«record» ∷ []) c.before.plain-refusal.ensures c.if1.true
+    more_refuse (plain_checks a.l a.p a.matrix) (record_check a.p a.«record» ∷ []) c.before.plain_refusal-number.ensures c.if-number-ne0.true
 
-returns-2 : tie.Need-returns-2
+returns-2 : tie.Need-returns
 unfolding recorded_checks plain_checks cost_checks
 returns-2 c =
     let a = c.before.before.before.before.before.before.args in
-    let short = c.before.below.ensures ∙ ap (λ (n : ℕ). broken (n ≤? a.«record» ∷ [])) c.before.before.record-words.ensures in
-    more_pass (plain_checks a.l a.p a.matrix) (record_check a.p a.«record» ∷ []) c.before.before.before.before.before.plain-refusal.ensures
-    (omega arith) c.before.before.before.before.if1.false (first_of_is _ _ short c.first_of.ensures first_none)
+    let short = c.before.below.ensures ∙ ap (λ (n : ℕ). broken (n ≤? a.«record» ∷ [])) c.before.before.record_words.ensures in
+    more_pass (plain_checks a.l a.p a.matrix) (record_check a.p a.«record» ∷ []) c.before.before.before.before.before.plain_refusal-number.ensures
+    (omega arith) c.before.before.before.before.if-number-ne0.false (first_of_is _ _ short c.first_of.ensures first_none)
 
-pub recorded-refusal-spec : {M : Type 1} → statement M
-recorded-refusal-spec =
+pub recorded_refusal_spec : {M : Type 1} → statement M
+recorded_refusal_spec =
     tie.close
     (tie.spec (omega arith) returns
-    (λ c. omega (arith, visited _ _ _ (sym c.before.before.plain-refusal.ensures ∙ c.before.if1.false)))
+    (λ c. omega (arith, visited _ _ _ (sym c.before.before.plain_refusal-number.ensures ∙ c.before.if-number-ne0.false)))
     (λ c κs.
-    let v = visited _ _ _ (sym c.before.before.plain-refusal.ensures ∙ c.before.if1.false) in
+    let v = visited _ _ _ (sym c.before.before.plain_refusal-number.ensures ∙ c.before.if-number-ne0.false) in
     (v.0, omega (arith, v.2)))
     (omega arith) (omega arith) returns-2)

@@ -1,8 +1,8 @@
 -- `encoded_length` meets its contract by arithmetic. Assumes nothing.
 use native.Mathlib.Omega.{arith}
-use Rattle.base64.specs.Base64.{encoded_length}
-use Rattle.base64.proofs.encoded_length.Statement.{statement}
-use Rattle.base64.proofs.encoded_length.Tie as tie
+use Rattle.base64_encoding.specs.Base64.{encoded_length}
+use Rattle.base64_encoding.proofs.encoded_length.Statement.{statement}
+use Rattle.base64_encoding.proofs.encoded_length.Tie as tie
 
 pub encoded-length-spec : {M : Type 1} → statement M
 unfolding encoded_length

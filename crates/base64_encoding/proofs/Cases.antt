@@ -4,7 +4,7 @@ use mathlib.Core.Bool.{false}
 use mathlib.Core.List.{[], ◌∷◌}
 use Rattle.lists.specs.Zip.{tabulate}
 use Rattle.base64_letters.specs.Letters.{letter, value_of}
-use Rattle.base64.specs.Base64.{three, sextet, encoded_length, encode, value_at, four, octet, decoded_length, decode, unused, is_text}
+use Rattle.base64_encoding.specs.Base64.{three, sextet, encoded_length, encode, value_at, four, octet, decoded_length, decode, unused, is_text}
 use Rattle.lists.specs.Every.{every}
 
 pub none : (encode [] ≡ []) × (decode [] ≡ [])

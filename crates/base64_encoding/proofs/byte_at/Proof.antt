@@ -1,9 +1,9 @@
 -- `byte_at` meets its contract: what stands past the end is 0. Assumes nothing.
 use mathlib.Core.Path.{refl, sym}
 use native.Mathlib.Omega.{arith}
-use Rattle.base64.proofs.Elements.{past_byte}
-use Rattle.base64.proofs.byte_at.Statement.{statement}
-use Rattle.base64.proofs.byte_at.Tie as tie
+use Rattle.base64_encoding.proofs.Elements.{past_byte}
+use Rattle.base64_encoding.proofs.byte_at.Statement.{statement}
+use Rattle.base64_encoding.proofs.byte_at.Tie as tie
 
 pub byte-at-spec : {M : Type 1} → statement M
 byte-at-spec =

@@ -12,9 +12,9 @@ use borrow.Author.Tests.{ltb-true, lt-ltb, eqb-true, eqb-false, eq-eqb, ne_eqb, 
 use Rattle.lists.specs.Every.{every}
 use Rattle.base64_letters.specs.Letters.{value_of}
 use Rattle.base64_letters.proofs.LetterLaws.{value_letter}
-use Rattle.base64.specs.Base64.{three, sextet, encoded_length, encode, value_at, unused, is_letter, all_letters, is_text}
-use Rattle.base64.proofs.Groups.{by_threes, by_fours}
-use Rattle.base64.proofs.Elements.{length-encode, get_or-encode, past_byte, value_inside, past_value, sextet_small, sextet_at}
+use Rattle.base64_encoding.specs.Base64.{three, sextet, encoded_length, encode, value_at, unused, is_letter, all_letters, is_text}
+use Rattle.base64_encoding.proofs.Groups.{by_threes, by_fours}
+use Rattle.base64_encoding.proofs.Elements.{length-encode, get_or-encode, past_byte, value_inside, past_value, sextet_small, sextet_at}
 
 -- ---- what a text is
 

@@ -12,10 +12,10 @@ use lib.Seq.{ext_get_or}
 use Rattle.lists.proofs.Parts.{get_or-inside}
 use Rattle.base64_letters.specs.Letters.{letter}
 use Rattle.base64_letters.proofs.LetterLaws.{letter_value}
-use Rattle.base64.specs.Base64.{three, sextet, encoded_length, encode, value_at, four, octet, decoded_length, decode, unused, is_text}
-use Rattle.base64.proofs.Groups.{by_threes, by_fours, number_4_small, digit_4, number_of_digits_4, number_3_small, digit_3, number_of_digits_3}
-use Rattle.base64.proofs.Elements.{length-encode, length-decode, get_or-encode, get_or-decode, past_byte, past_value, sextet_at, octet_at}
-use Rattle.base64.proofs.Texts.{Text, text_is, value_encode}
+use Rattle.base64_encoding.specs.Base64.{three, sextet, encoded_length, encode, value_at, four, octet, decoded_length, decode, unused, is_text}
+use Rattle.base64_encoding.proofs.Groups.{by_threes, by_fours, number_4_small, digit_4, number_of_digits_4, number_3_small, digit_3, number_of_digits_3}
+use Rattle.base64_encoding.proofs.Elements.{length-encode, length-decode, get_or-encode, get_or-decode, past_byte, past_value, sextet_at, octet_at}
+use Rattle.base64_encoding.proofs.Texts.{Text, text_is, value_encode}
 
 -- ---- bytes to text and back
 

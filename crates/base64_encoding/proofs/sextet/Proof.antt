@@ -1,9 +1,9 @@
 -- `sextet` meets its contract: the bytes make the group's number, and a shift is a division. Assumes nothing.
 use native.Mathlib.Omega.{arith}
-use Rattle.base64.specs.Base64.{three, sextet}
-use Rattle.base64.proofs.Groups.{shift_4}
-use Rattle.base64.proofs.sextet.Statement.{statement}
-use Rattle.base64.proofs.sextet.Tie as tie
+use Rattle.base64_encoding.specs.Base64.{three, sextet}
+use Rattle.base64_encoding.proofs.Groups.{shift_4}
+use Rattle.base64_encoding.proofs.sextet.Statement.{statement}
+use Rattle.base64_encoding.proofs.sextet.Tie as tie
 
 pub sextet-spec : {M : Type 1} → statement M
 unfolding three sextet

@@ -4,10 +4,10 @@ use Prim.Native.Nat.{◌-◌}
 use native.Mathlib.Omega.{arith}
 use Rattle.lists.proofs.Placed.{Placed, placed_none, placed_again, placed_end}
 use Rattle.base64_letters.specs.Letters.{letter}
-use Rattle.base64.specs.Base64.{encode}
-use Rattle.base64.proofs.Elements.{length-encode, get_or-encode, sextet_small}
-use Rattle.base64.proofs.append_encoded.Statement.{statement}
-use Rattle.base64.proofs.append_encoded.Tie as tie
+use Rattle.base64_encoding.specs.Base64.{encode}
+use Rattle.base64_encoding.proofs.Elements.{length-encode, get_or-encode, sextet_small}
+use Rattle.base64_encoding.proofs.append_encoded.Statement.{statement}
+use Rattle.base64_encoding.proofs.append_encoded.Tie as tie
 
 pub append-encoded-spec : {M : Type 1} → statement M
 append-encoded-spec =

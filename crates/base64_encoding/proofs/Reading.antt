@@ -9,7 +9,7 @@ use lib.ListN.{length, get_or}
 use borrow.Author.Tests.{lt-ltb, le-ltb, eq-eqb, ne_eqb}
 use Rattle.lists.proofs.EveryLaws.{Passed, passed_more, failed, passed_end}
 use Rattle.base64_letters.specs.Letters.{value_of}
-use Rattle.base64.specs.Base64.{value_at, unused, is_letter, all_letters, is_text}
+use Rattle.base64_encoding.specs.Base64.{value_at, unused, is_letter, all_letters, is_text}
 
 -- ---- the last letter
 

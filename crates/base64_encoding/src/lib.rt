@@ -1,9 +1,10 @@
 // Base 64 of bytes, place by place. A branch goes by a place or a length, never by a byte's value: keys are secret. Bits are taken by shifts,
 // since a division by a variable takes a time that tells its operands.
 #![tactic(auto)]
+
 ghost use Rattle.std.specs.Prelude.{◌≡◌, ◌+◌, ◌^◌, ◌≤◌, ◌<◌, length, get_or};
 ghost use Rattle.text.specs.Text.{Appended};
-ghost use Rattle.base64.specs.Base64.{sextet, encoded_length, encode};
+ghost use Rattle.base64_encoding.specs.Base64.{sextet, encoded_length, encode};
 
 use base64_letters::letter;
 

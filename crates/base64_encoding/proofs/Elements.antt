@@ -8,7 +8,7 @@ use lib.ListN.{length, get_or, get_or-eq_default}
 use Rattle.lists.proofs.ZipLaws.{length-tabulate, get_or-tabulate}
 use Rattle.lists.proofs.Parts.{get_or-inside}
 use Rattle.base64_letters.specs.Letters.{letter, value_of}
-use Rattle.base64.specs.Base64.{three, sextet, encoded_length, encode, value_at, four, octet, decoded_length, decode}
+use Rattle.base64_encoding.specs.Base64.{three, sextet, encoded_length, encode, value_at, four, octet, decoded_length, decode}
 
 -- ---- lengths
 
