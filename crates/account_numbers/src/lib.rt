@@ -1,6 +1,7 @@
 // Whether the numbers of a book's accounts are distinct. No memory is lent to remember them in, so a block of them at a time is held on the
 // stack and compared with all behind it.
 #![tactic(auto)]
+
 ghost use Rattle.std.specs.Prelude.{◌≡◌, true, ◌<◌, length};
 ghost use Rattle.accounts.specs.Accounts.{accounts};
 ghost use Rattle.accounts.specs.Book.{distinct, is_run, Running};

@@ -1,6 +1,7 @@
 // A reader over a lent book of accounts, which steps from account to account: the book's slice and a place in it. Its functions are thin;
 // the work is that of `account_heads`, over a slice and a number. What has plain parameters serves the loops over a book.
 #![tactic(auto)]
+
 ghost use Rattle.std.specs.Prelude.{◌≡◌, ◌+◌, drop};
 ghost use Rattle.accounts.specs.Accounts.{entry_of};
 

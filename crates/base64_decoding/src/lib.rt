@@ -1,6 +1,7 @@
 // Bytes of base 64, place by place, and which texts are base 64. A branch goes by a place or a length, never by a letter's value, but for
 // text that is refused: keys are secret. Bits are taken by shifts, since a division by a variable takes a time that tells its operands.
 #![tactic(auto)]
+
 ghost use Rattle.std.specs.Prelude.{◌≡◌, ◌-◌, ◌%◌, ◌≤◌, ◌<◌, eqb, length};
 ghost use Rattle.lists.specs.Zip.{put_into};
 ghost use Rattle.base64_encoding.specs.Base64.{value_at, octet, decoded_length, decode, unused, is_text};

@@ -1,5 +1,6 @@
 // Going over a book from account to account: whether it is a run of whole ones, and where the account of a number is.
 #![tactic(auto)]
+
 ghost use Rattle.std.specs.Prelude.{◌≡◌, true};
 ghost use Rattle.accounts.specs.Accounts.{accounts};
 ghost use Rattle.accounts.specs.Book.{is_run, place_of};

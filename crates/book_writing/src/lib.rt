@@ -1,5 +1,6 @@
 // The bytes of a book that change: an account is taken out, or put behind the others.
 #![tactic(auto)]
+
 ghost use Rattle.std.specs.Prelude.{◌≡◌, ◌++◌, ◌+◌, ◌-◌, ◌≤◌, length, get_or, take, drop, replicate};
 ghost use Rattle.lists.specs.Zip.{zip_at};
 ghost use Rattle.little_endian.specs.Bytes.{le_bytes};

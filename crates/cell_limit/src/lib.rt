@@ -1,5 +1,6 @@
 // U, the bound on the cells of a matrix that fits.
 #![tactic(auto)]
+
 ghost use Rattle.std.specs.Prelude.{◌≡◌, min};
 ghost use Rattle.refusals.specs.Checks.{Accepted, length_checks, given_checks};
 ghost use Rattle.choice.specs.Choice.{full_spent, cell_limit};

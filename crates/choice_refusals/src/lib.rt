@@ -1,5 +1,6 @@
 // When a choice of costs is turned down.
 #![tactic(auto)]
+
 ghost use Rattle.std.specs.Prelude.{◌≡◌};
 ghost use Rattle.choice.specs.Choice.{choice_number};
 

@@ -1,5 +1,6 @@
 // Choosing costs for a gateway: T, R and C within a matrix and a number of rounds.
 #![tactic(auto)]
+
 ghost use Rattle.std.specs.Prelude.{◌≡◌, ◌≤◌, ◌<◌, ◌*◌, ◌^◌};
 ghost use Rattle.refusals.specs.Checks.{Accepted, length_checks};
 ghost use Rattle.choice.specs.Choice.{cells, spends, time_for, answer_for, chosen, choice_number, choice_answer};

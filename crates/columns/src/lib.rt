@@ -1,6 +1,7 @@
 // The rows and columns that one column of Setup or of a visit works on, and where those rows start; what it does is defined in
 // specs/.
 #![tactic(auto)]
+
 ghost use Rattle.std.specs.Prelude.{◌≡◌, ◌^◌};
 ghost use Rattle.columns.specs.Bounds.{starts_of, Within};
 

@@ -1,5 +1,6 @@
 // The costs of a call as its answer, and the cost question.
 #![tactic(auto)]
+
 ghost use Rattle.std.specs.Prelude.{◌≡◌, ◌+◌, ◌*◌, ◌≤◌, ◌<◌, ◌^◌};
 ghost use Rattle.settings.specs.Settings.{settings};
 ghost use Rattle.refusals.specs.Checks.{first, length_checks, cost_checks, Accepted};

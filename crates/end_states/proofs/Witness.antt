@@ -65,7 +65,7 @@ module _ (T ρ ω : ℕ) (v : Mixer) (b : ℕ) (h : b < 256) (taken : Taken T ρ
               visited_after = answered-yes _ _ taken refl;
             };
         accepted = none_refuses;
-        password_bytes = λ i. elim i [ zero ↦ h | suc j ↦ omega arith ];
+        password_bytes = λ i. elim i as (λ k. get_or (b ∷ []) k 0 < 256) [ zero ↦ h | suc j ↦ omega arith ];
         salt_bytes = zero_bytes 8;
       }
 

@@ -1,5 +1,6 @@
 // A column of Setup's first three rows. The row that is filled is written from its last column down, in the column `mirror`.
 #![tactic(auto)]
+
 ghost use Rattle.std.specs.Prelude.{◌≡◌, ◌+◌, ◌≤◌, ◌<◌, length};
 ghost use Rattle.lists.specs.Zip.{zip_at};
 ghost use Rattle.mixer.specs.Mixers.{sum_of};

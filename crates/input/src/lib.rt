@@ -1,5 +1,6 @@
 // The absorption of the padded input. No block of its own ever holds the password.
 #![tactic(auto)]
+
 ghost use Rattle.std.specs.Prelude.{◌≡◌, ◌<◌, length};
 ghost use Rattle.lists.specs.Zip.{xor_into};
 ghost use Rattle.mixer.specs.Mixers.{sum_of};

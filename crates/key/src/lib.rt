@@ -1,5 +1,6 @@
 // Squeezing the key out of a state, and comparing it with a stored one byte by byte as it comes.
 #![tactic(auto)]
+
 ghost use Rattle.std.specs.Prelude.{◌≡◌, ◌^◌, ◌<◌, length, get_or};
 ghost use Rattle.std.specs.Int.Bits.{bit_or, bit_xor};
 ghost use Rattle.mixer.specs.Mixers.{sum_of};

@@ -1,5 +1,6 @@
 // The bytes of the key, one after another out of a state.
 #![tactic(auto)]
+
 ghost use Rattle.std.specs.Prelude.{◌≡◌, ◌%◌, ◌<◌, get_or};
 ghost use Rattle.mixer.specs.Mixers.{sum_of};
 ghost use Rattle.key_bytes.specs.KeyBytes.{piece_bytes, full_calls, piece, calls_before};

@@ -80,7 +80,7 @@ module _ (sum : ℕ → ℕ → ℕ) (i : ℕ) (states₀ : List (List ℕ)) whe
           | no other ↦ get_or-set_other states lane j s [] other ∙ q.called j (omega arith)
         ];
         kept = λ j le. get_or-set_other states lane j s [] (λ e. omega arith) ∙ q.kept j (omega arith);
-        byte_is = loop_more _ lane 0 byte _ q.byte_is (ap (bit_xor byte) (eb ∙ ap (λ (l : List ℕ). get_or (piece l) (i % 96) 0) here));
+        byte_is = loop_more (λ k x. bit_xor x (byte_of sum i states₀ k)) lane 0 byte _ q.byte_is (ap (bit_xor byte) (eb ∙ ap (λ (l : List ℕ). get_or (piece l) (i % 96) 0) here));
         made = omega (arith, q.made, more_lanes);
       }
 

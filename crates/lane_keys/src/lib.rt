@@ -1,5 +1,6 @@
 // The key of several lanes, byte by byte: a byte of each lane's key, XORed.
 #![tactic(auto)]
+
 ghost use Rattle.std.specs.Prelude.{◌≡◌, ◌<◌, ◌^◌, length, get_or, set};
 ghost use Rattle.std.specs.Int.Bits.{bit_or, bit_xor};
 ghost use Rattle.mixer.specs.Mixers.{sum_of};

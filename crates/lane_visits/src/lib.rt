@@ -1,5 +1,6 @@
 // The visits of one lane.
 #![tactic(auto)]
+
 ghost use Rattle.std.specs.Prelude.{◌≡◌, ◌*◌, ◌+◌, ◌/◌, ◌%◌, ◌<◌, ◌≤◌, ◌^◌, length};
 ghost use Rattle.settings.specs.Settings.{settings};
 ghost use Rattle.columns.specs.Bounds.{starts_of, Within};

@@ -1,5 +1,6 @@
 // The visits of all lanes. Between two meetings the lanes run in turn.
 #![tactic(auto)]
+
 ghost use Rattle.std.specs.Prelude.{◌≡◌, ◌*◌, ◌<◌, ◌≤◌, ◌^◌, length};
 ghost use Rattle.settings.specs.Settings.{settings};
 ghost use Rattle.lanes.specs.Lanes.{works};

@@ -1,5 +1,6 @@
 // Several sponges over one matrix: what they do is defined in specs/.
 #![tactic(auto)]
+
 ghost use Rattle.std.specs.Prelude.{◌≡◌, min};
 
 // How many lanes there are, and the rows that each has.

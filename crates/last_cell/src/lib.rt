@@ -1,5 +1,6 @@
 // The last cell, absorbed before the key is squeezed.
 #![tactic(auto)]
+
 ghost use Rattle.std.specs.Prelude.{◌≡◌, ◌+◌, ◌*◌, ◌≤◌, length};
 ghost use Rattle.profile.specs.Profile.{cell_words};
 ghost use Rattle.settings.specs.Settings.{settings};

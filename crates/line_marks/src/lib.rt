@@ -1,5 +1,6 @@
 // The marks of a login line, and where its texts end.
 #![tactic(auto)]
+
 ghost use Rattle.std.specs.Prelude.{◌≡◌, ◌+◌, ◌≤◌, length};
 ghost use Rattle.text.specs.Text.{stands_at};
 ghost use Rattle.line_form.specs.Line.{start_mark, end_at};

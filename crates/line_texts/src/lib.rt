@@ -1,5 +1,6 @@
 // The texts of a login line: their form, and what they say.
 #![tactic(auto)]
+
 ghost use Rattle.std.specs.Prelude.{◌≡◌, ◌&&◌, ◌+◌, ◌≤◌, min, length};
 ghost use Rattle.decimal.specs.Decimal.{is_number, number_of};
 ghost use Rattle.base64_encoding.specs.Base64.{is_text};

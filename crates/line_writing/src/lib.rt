@@ -1,5 +1,6 @@
 // Writing a login line into a lent output.
 #![tactic(auto)]
+
 ghost use Rattle.std.specs.Prelude.{◌≡◌, ◌+◌, ◌≤◌, ◌<◌, ◌++◌, length};
 ghost use Rattle.text.specs.Text.{Appended};
 ghost use Rattle.decimal.specs.Decimal.{decimal};

@@ -1,5 +1,6 @@
 // A matrix of which parts are lent.
 #![tactic(auto)]
+
 ghost use Rattle.std.specs.Prelude.{◌≡◌};
 ghost use Rattle.parts.specs.Parts.{found_in};
 

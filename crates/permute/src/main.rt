@@ -4,32 +4,31 @@
 
 use mixer::Mixer;
 use profile::Profile;
+use std::io;
+use std::io::{Input, Print, Read};
 
 const STATE_BYTES: usize = 128;
 
-fn print_state(s: &[u64; 16]) {
-    let mut i = 0;
-    while i < 16 {
-        io::print_hex(libc::STDOUT_FILENO, s[i], 16);
-        io::write_all(libc::STDOUT_FILENO, b"\n");
-        i += 1;
+// One byte more than a state, so that a longer input is seen to be longer.
+const INPUT_BYTES: u64 = 129;
+
+fn print_state(rt: &impl Print, s: &[u64; 16]) -> io::Result<()> {
+    for word in s {
+        println!(rt; "{word:016x}")?;
     }
+    Ok(())
 }
 
-fn main() {
-    // One byte more than a state, so that a longer input is seen to be longer.
-    let mut bytes = [0u8; 129];
-    let n = io::read_full(libc::STDIN_FILENO, &mut bytes);
+fn main(rt: HostRuntime) -> io::Result<()> {
+    let mut bytes = Vec::new(rt.alloc());
+    rt.reader().take(INPUT_BYTES).read_to_end(&mut bytes)?;
     let mut s = Profile::start();
-    if n == STATE_BYTES {
+    if bytes.len() == STATE_BYTES {
         little_endian::load_words(&bytes, &mut s);
-    } else if n != 0 {
-        io::write_all(
-            libc::STDOUT_FILENO,
-            b"permute: the input has to be empty or 128 bytes long\n",
-        );
-        return;
+    } else if bytes.len() != 0 {
+        println!(rt; "permute: the input has to be empty or 128 bytes long")?;
+        return Ok(());
     }
     sponge::duplex::full_call(&mut s, Mixer::Plain);
-    print_state(&s);
+    print_state(&rt, &s)
 }

@@ -1,5 +1,6 @@
 // Setup: every row of the matrix is written once, and rows before it are revisited.
 #![tactic(auto)]
+
 ghost use Rattle.std.specs.Prelude.{◌≡◌, ◌+◌, ◌*◌, ◌-◌, ◌≤◌, ◌<◌, ◌^◌, length};
 ghost use Rattle.profile.specs.Profile.{cell_words};
 ghost use Rattle.settings.specs.Settings.{settings};

@@ -1,5 +1,6 @@
 // A column of Setup's rows from 3 on. The row that is filled is written from its last column down, in the column `mirror`.
 #![tactic(auto)]
+
 ghost use Rattle.std.specs.Prelude.{◌≡◌, ◌<◌, length};
 ghost use Rattle.settings.specs.Settings.{settings};
 ghost use Rattle.columns.specs.Bounds.{AtRows, Apart, Within};

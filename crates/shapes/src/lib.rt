@@ -1,5 +1,6 @@
 // The best of the matrices with 1, 2 and more columns.
 #![tactic(auto)]
+
 ghost use Rattle.std.specs.Prelude.{◌≡◌, ◌≤◌, ◌<◌, ◌^◌};
 ghost use Rattle.choice.specs.Choice.{cells, rows_for, better, best_of};
 

@@ -1,5 +1,6 @@
 // The sponge for tests and benchmarks in other languages: each function hands on to the proved one.
 #![tactic(auto)]
+
 ghost use Rattle.std.specs.Prelude.{◌≡◌};
 ghost use Rattle.mixer.specs.Mixers.{sum_of, mixer_of};
 ghost use Rattle.mixer.specs.G.{G};

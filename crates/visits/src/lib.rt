@@ -1,5 +1,6 @@
 // A visit of Wandering, and a record of what it picked where the caller lends one.
 #![tactic(auto)]
+
 ghost use Rattle.std.specs.Prelude.{◌≡◌, ◌+◌, ◌<◌, ◌^◌, [], length};
 ghost use Rattle.lists.specs.Zip.{zip_at};
 ghost use Rattle.settings.specs.Settings.{settings};

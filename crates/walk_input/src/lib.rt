@@ -1,5 +1,6 @@
 // R as standard input gives it.
 #![tactic(auto)]
+
 ghost use Rattle.std.specs.Prelude.{◌≡◌};
 ghost use Rattle.walk_input.specs.Input.{rows_read};
 

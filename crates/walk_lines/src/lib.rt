@@ -1,5 +1,6 @@
 // The lines of the Setup steps, put into a lent buffer. Each function answers where its text ends.
 #![tactic(auto)]
+
 ghost use Rattle.std.specs.Prelude.{◌+◌, ◌-◌, ◌≤◌, ◌<◌, length};
 ghost use Rattle.text.specs.Text.{Appended};
 ghost use Rattle.walk_lines.specs.Lines.{line, step_lines, output_bytes};

@@ -1,5 +1,6 @@
 // Wandering: all visits of the single sponge, one after another.
 #![tactic(auto)]
+
 ghost use Rattle.std.specs.Prelude.{◌*◌, ◌<◌, ◌^◌, length};
 ghost use Rattle.settings.specs.Settings.{settings};
 ghost use Rattle.settings.specs.Sizes.{visit_words};

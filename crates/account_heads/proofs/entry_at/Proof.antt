@@ -18,47 +18,47 @@ short : (book : List ℕ) (at : ℕ) {e : Entry} → length book < at + head_byt
 short book at h is =
     is ∙ sym (entry_none (drop at book) (cut_off (drop at book) (omega (arith, length-drop at book, size_is (drop at book)))))
 
-returns : tie.Need-returns
-returns c = let a = c.before.before.before.args in short a.book.now a.at (omega arith) c.no-entry.ensures
+returns : tie.Need-returns-then-book-at
+returns c = let a = c.before.before.before.args in short a.book.now a.at (omega arith) c.no_entry.ensures
 
-returns-2 : tie.Need-returns-2
-returns-2 c = let a = c.before.before.before.before.args in short a.book.now a.at (omega arith) c.no-entry2.ensures
+returns-2 : tie.Need-returns-then-rest-lt-HEAD_BYTES
+returns-2 c = let a = c.before.before.before.before.args in short a.book.now a.at (omega arith) c.no_entry-then-rest-lt-HEAD_BYTES.ensures
 
-returns-3 : tie.Need-returns-3
+returns-3 : tie.Need-returns-then-not-stands_at
 returns-3 c =
     let a = c.before.before.before.before.before.before.before.args in
     let u = drop a.at a.book.now in
     let stood : _ ≡ stands_at a.book.now a.at mark = c.before.before.stands_at.ensures in
-    c.no-entry3.ensures ∙ sym (entry_none u (unmarked u (sym stood ∙ not-true _ c.before.if3.true)))
+    c.no_entry-then-not-stands_at.ensures ∙ sym (entry_none u (unmarked u (sym stood ∙ c.before.if-not-stands_at.true)))
 
-returns-4 : tie.Need-returns-4
+returns-4 : tie.Need-returns-then-stored_refusal-ne0
 returns-4 c =
     let a = c.before.before.before.before.before.before.before.before.before.before.args in
     let u = drop a.at a.book.now in
-    let is = c.before.before.before.head_at.ensures in
-    let told : _ ≡ first (limits c.before.before.before.head_at.result) = c.before.before.stored-refusal.ensures in
-    c.no-entry4.ensures ∙ sym (entry_none u (outside u (λ z. c.before.if4.true (told ∙ ap (λ (e : Entry). first (limits e)) is ∙ z))))
+    let is = c.before.before.before.head_at-e.ensures in
+    let told : _ ≡ first (limits c.before.before.before.head_at-e.result) = c.before.before.stored_refusal.ensures in
+    c.no_entry-then-stored_refusal-ne0.ensures ∙ sym (entry_none u (outside u (λ z. c.before.if-stored_refusal-ne0.true (told ∙ ap (λ (e : Entry). first (limits e)) is ∙ z))))
 
-returns-5 : tie.Need-returns-5
+returns-5 : tie.Need-returns-then-rest-e
 returns-5 c =
     let a = c.before.before.before.before.before.before.before.before.before.before.before.before.args in
-    let is = ap (λ (e : Entry). e.size) c.before.before.before.before.before.head_at.ensures in
+    let is = ap (λ (e : Entry). e.size) c.before.before.before.before.before.head_at-e.ensures in
     let u = drop a.at a.book.now in
-    c.no-entry5.ensures ∙ sym (entry_none u (cut_off u (omega (arith, is, length-drop a.at a.book.now))))
+    c.no_entry-then-rest-e.ensures ∙ sym (entry_none u (cut_off u (omega (arith, is, length-drop a.at a.book.now))))
 
-returns-6 : tie.Need-returns-6
+returns-6 : tie.Need-returns
 returns-6 c =
     let a = c.before.before.before.before.before.before.before.before.before.before.before.args in
-    let is = c.before.before.before.before.head_at.ensures in
+    let is = c.before.before.before.before.head_at-e.ensures in
     let long = ap (λ (e : Entry). e.size) is in
     let u = drop a.at a.book.now in
     let stood : _ ≡ stands_at a.book.now a.at mark = c.before.before.before.before.before.before.stands_at.ensures in
-    let told : _ ≡ first (limits c.before.before.before.before.head_at.result) = c.before.before.before.stored-refusal.ensures in
+    let told : _ ≡ first (limits c.before.before.before.before.head_at-e.result) = c.before.before.before.stored_refusal.ensures in
     is ∙ sym (entry_whole u
-    (is_whole_lem u (sym stood ∙ not-false _ c.before.before.before.before.before.if3.false) (ap (λ (e : Entry). first (limits e)) (sym is) ∙ sym told ∙ c.before.before.if4.false)
+    (is_whole_lem u (sym stood ∙ c.before.before.before.before.before.if-not-stands_at.false) (ap (λ (e : Entry). first (limits e)) (sym is) ∙ sym told ∙ c.before.before.if-stored_refusal-ne0.false)
     (omega (arith, long, length-drop a.at a.book.now))))
 
-pub entry-at-spec : {M : Type 1} → statement M
-entry-at-spec =
+pub entry_at_spec : {M : Type 1} → statement M
+entry_at_spec =
     tie.close
-    (tie.spec (omega arith) returns (omega arith) (omega arith) returns-2 (omega arith) (omega arith) (omega arith) returns-3 (omega arith) (omega arith) (omega arith) returns-4 (omega arith) returns-5 returns-6)
+    (tie.spec (omega arith) returns (omega arith) (omega arith) returns-2 (omega arith) (omega arith) returns-3 (omega arith) (omega arith) (omega arith) returns-4 (omega arith) returns-5 returns-6)

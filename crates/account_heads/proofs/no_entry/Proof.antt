@@ -4,6 +4,6 @@ use Rattle.accounts.specs.Accounts.{nothing}
 use Rattle.account_heads.proofs.no_entry.Statement.{statement}
 use Rattle.account_heads.proofs.no_entry.Tie as tie
 
-pub no-entry-spec : {M : Type 1} → statement M
+pub no_entry_spec : {M : Type 1} → statement M
 unfolding nothing
-no-entry-spec = tie.close (tie.spec (λ c. refl))
+no_entry_spec = tie.close (tie.spec (λ c. refl))

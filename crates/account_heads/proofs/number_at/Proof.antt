@@ -15,11 +15,11 @@ returns c =
     let start = c.before.before in
     let a = start.args in
     let book = a.book.now in
-    let same = c.load-number.ensures in (
+    let same = c.load_number.ensures in (
       same ∙ ap (λ (l : List ℕ). le_value (take a.width l)) (sym (drop-drop a.from a.at book)),
       subst (λ (x : ℕ). x < 2 ^ (8 * a.width)) (sym same)
-          (value_most a.width _ (drop_bytes (a.at + a.from) book (λ i. (c.before.shared-slice-known.given i).fits))),
+          (value_most a.width _ (drop_bytes (a.at + a.from) book (λ i. (c.before.shared_slice_known-1.given i).fits))),
     )
 
-pub number-at-spec : {M : Type 1} → statement M
-number-at-spec = tie.close (tie.spec (omega arith) (omega arith) returns)
+pub number_at_spec : {M : Type 1} → statement M
+number_at_spec = tie.close (tie.spec (omega arith) (omega arith) returns)

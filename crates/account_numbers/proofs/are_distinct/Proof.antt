@@ -10,22 +10,22 @@ use Rattle.account_numbers.proofs.Comparing.{Distinct, distinct_none, distinct_r
 use Rattle.account_numbers.proofs.are_distinct.Statement.{statement}
 use Rattle.account_numbers.proofs.are_distinct.Tie as tie
 
-pub are-distinct-spec : {M : Type 1} → statement M
-are-distinct-spec =
+pub are_distinct_spec : {M : Type 1} → statement M
+are_distinct_spec =
     tie.close
     (tie.spec (λ book block₀ at₀ block at. (length block ≡ 128) × Distinct book at) (λ book block₀ at₀ block at. length book - at)
-    (λ c κs. tt) (λ c. (refl, distinct_none (running_none (run _ c.before.before.requires)))) (λ c. omega (arith, c.before.before.loop.invariant.0)) (λ c κs. (c.before.before.loop.invariant.1.running, omega arith)) (λ c. omega (arith, c.before.collect.ensures.0.count_most)) (λ c. sym (length-take-le _ _ c.before.before.collect.ensures.0.count_most)) (λ c κs. tt)
+    (λ c κs. tt) (λ c. (refl, distinct_none (running_none (run _ c.before.before.requires)))) (λ c. omega (arith, c.before.before.loop-at.invariant.0)) (λ c κs. (c.before.before.loop-at.invariant.1.running, omega arith)) (λ c. omega (arith, c.before.collect-b.ensures.0.count_most)) (λ c. sym (length-take-le _ _ c.before.before.collect-b.ensures.0.count_most)) (λ c κs. tt)
     (λ c.
-    distinct_repeated c.before.before.before.before.before.before.before.loop.invariant.1 c.before.before.before.before.collect.ensures.0
-    (sym c.before.all-differ.ensures ∙ not-true _ c.if1.true))
-    (λ c. omega (arith, c.before.before.before.before.collect.ensures.0.count_most)) (λ c. sym (length-take-le _ _ c.before.before.before.before.before.collect.ensures.0.count_most)) (λ c κs. c.before.before.before.before.before.collect.ensures.0.running)
+    distinct_repeated c.before.before.before.before.before.before.before.loop-at.invariant.1 c.before.before.before.before.collect-b.ensures.0
+    (sym c.before.all_differ.ensures ∙ c.if-not-all_differ.true))
+    (λ c. omega (arith, c.before.before.before.before.collect-b.ensures.0.count_most)) (λ c. sym (length-take-le _ _ c.before.before.before.before.before.collect-b.ensures.0.count_most)) (λ c κs. c.before.before.before.before.before.collect-b.ensures.0.running)
     (λ c.
-    distinct_met c.before.before.before.before.before.before.before.before.before.before.loop.invariant.1 c.before.before.before.before.before.before.before.collect.ensures.0
-    (sym c.before.before.before.before.all-differ.ensures ∙ not-false _ c.before.before.before.if1.false) (sym c.before.meets.ensures ∙ c.if2.true))
-    (λ c. omega (arith, c.before.before.before.before.before.before.before.collect.ensures.0.moves (omega arith)))
+    distinct_met c.before.before.before.before.before.before.before.before.before.before.loop-at.invariant.1 c.before.before.before.before.before.before.before.collect-b.ensures.0
+    (sym c.before.before.before.before.all_differ.ensures ∙ c.before.before.before.if-not-all_differ.false) (sym c.before.meets.ensures ∙ c.if-meets.true))
+    (λ c. omega (arith, c.before.before.before.before.before.before.before.collect-b.ensures.0.moves (omega arith)))
     (λ c. (
-      c.before.before.before.before.before.before.before.collect.ensures.1 ∙ c.before.before.before.before.before.before.before.before.before.before.loop.invariant.0,
-      distinct_more c.before.before.before.before.before.before.before.before.before.before.loop.invariant.1 c.before.before.before.before.before.before.before.collect.ensures.0
-          (sym c.before.before.before.before.all-differ.ensures ∙ not-false _ c.before.before.before.if1.false) (sym c.before.meets.ensures ∙ c.if2.false),
+      c.before.before.before.before.before.before.before.collect-b.ensures.1 ∙ c.before.before.before.before.before.before.before.before.before.before.loop-at.invariant.0,
+      distinct_more c.before.before.before.before.before.before.before.before.before.before.loop-at.invariant.1 c.before.before.before.before.before.before.before.collect-b.ensures.0
+          (sym c.before.before.before.before.all_differ.ensures ∙ c.before.before.before.if-not-all_differ.false) (sym c.before.meets.ensures ∙ c.if-meets.false),
     ))
-    (λ c. distinct_end c.before.loop.invariant.1 (omega arith)))
+    (λ c. distinct_end c.before.loop-at.invariant.1 (omega arith)))

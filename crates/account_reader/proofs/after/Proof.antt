@@ -8,7 +8,7 @@ use Rattle.accounts.proofs.Decoding.{entry_fits}
 use Rattle.account_reader.proofs.after.Statement.{statement}
 use Rattle.account_reader.proofs.after.Tie as tie
 
-add-result : tie.Need-overflow-add-result
+add-result : tie.Need-overflow_add-result
 add-result c =
     let a = c.before.before.before.args in
     let size = ap (λ (e : Entry). e.size) c.before.entry_at.ensures in
@@ -17,5 +17,5 @@ add-result c =
 returns : tie.Need-returns
 returns c = ap (λ (e : Entry). c.before.before.before.args.at + e.size) c.before.entry_at.ensures
 
-pub after-spec : {M : Type 1} → statement M
-after-spec = tie.close (tie.spec (omega arith) add-result returns)
+pub after_spec : {M : Type 1} → statement M
+after_spec = tie.close (tie.spec (omega arith) add-result returns)

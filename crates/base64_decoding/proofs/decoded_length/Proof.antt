@@ -4,6 +4,6 @@ use Rattle.base64_encoding.specs.Base64.{decoded_length}
 use Rattle.base64_decoding.proofs.decoded_length.Statement.{statement}
 use Rattle.base64_decoding.proofs.decoded_length.Tie as tie
 
-pub decoded-length-spec : {M : Type 1} → statement M
+pub decoded_length_spec : {M : Type 1} → statement M
 unfolding decoded_length
-decoded-length-spec = tie.close (tie.spec (omega arith) (omega arith) (omega arith) (omega arith))
+decoded_length_spec = tie.close (tie.spec (omega arith) (omega arith) (omega arith) (omega arith))

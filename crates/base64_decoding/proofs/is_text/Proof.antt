@@ -9,13 +9,13 @@ use Rattle.base64_encoding.proofs.Reading.{letter_more, no_letter, letter_over, 
 use Rattle.base64_decoding.proofs.is_text.Statement.{statement}
 use Rattle.base64_decoding.proofs.is_text.Tie as tie
 
-pub is-text-spec : {M : Type 1} → statement M
-is-text-spec =
+pub is_text_spec : {M : Type 1} → statement M
+is_text_spec =
     tie.close
     (tie.spec (λ text i₀ i. Passed is_letter text i) (λ text i₀ i. length text - i) (λ c. passed_none is_letter) (omega arith) (omega arith)
-    (λ c. no_letter c.before.before.before.before.loop.invariant (omega arith) c.before.value.ensures (omega arith))
+    (λ c. no_letter c.before.before.before.before.loop-i.invariant (omega arith) c.before.value.ensures (omega arith))
     (omega arith) (omega arith)
-    (λ c. letter_more c.before.before.before.before.loop.invariant (omega arith) c.before.value.ensures (omega arith))
-    (λ c. letter_over c.before.before.loop.invariant (omega arith) (omega arith))
+    (λ c. letter_more c.before.before.before.before.loop-i.invariant (omega arith) c.before.value.ensures (omega arith))
+    (λ c. letter_over c.before.before.loop-i.invariant (omega arith) (omega arith))
     (omega arith)
-    (λ c. c.unused-bits-zero.ensures ∙ all_read c.before.before.before.loop.invariant (omega arith) (omega arith)))
+    (λ c. c.unused_bits_zero.ensures ∙ all_read c.before.before.before.loop-i.invariant (omega arith) (omega arith)))

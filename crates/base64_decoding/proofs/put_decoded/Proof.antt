@@ -9,14 +9,14 @@ use Rattle.base64_encoding.proofs.Elements.{length-decode, get_or-decode}
 use Rattle.base64_decoding.proofs.put_decoded.Statement.{statement}
 use Rattle.base64_decoding.proofs.put_decoded.Tie as tie
 
-pub put-decoded-spec : {M : Type 1} → statement M
+pub put_decoded_spec : {M : Type 1} → statement M
 unfolding zip_at
-put-decoded-spec =
+put_decoded_spec =
     tie.close
     (tie.spec (λ text out₀ n j₀ out j. Placed (λ x y. y) 0 out₀ (decode text) out j n) (λ text out₀ n j₀ out j. n - j) (omega arith)
-    (λ c. placed_none (λ x y. y) (length-decode _ ∙ sym c.decoded-length.ensures)) (omega arith) (omega arith) (omega arith) (omega arith)
+    (λ c. placed_none (λ x y. y) (length-decode _ ∙ sym c.decoded_length-n.ensures)) (omega arith) (omega arith) (omega arith) (omega arith)
     (λ c.
-    placed_again (λ x y. y) c.before.before.loop.invariant (omega arith) (omega arith)
+    placed_again (λ x y. y) c.before.before.loop-j.invariant (omega arith) (omega arith)
     (c.octet.ensures ∙ sym (get_or-decode _ _ (omega arith))))
     (omega arith)
-    (λ c. placed_end (λ x y. y) c.before.loop.invariant (omega arith)))
+    (λ c. placed_end (λ x y. y) c.before.loop-j.invariant (omega arith)))

@@ -6,8 +6,8 @@ use Rattle.base64_encoding.proofs.Elements.{value_inside, past_value}
 use Rattle.base64_decoding.proofs.value_at.Statement.{statement}
 use Rattle.base64_decoding.proofs.value_at.Tie as tie
 
-pub value-at-spec : {M : Type 1} → statement M
-value-at-spec =
+pub value_at_spec : {M : Type 1} → statement M
+value_at_spec =
     tie.close
     (tie.spec (omega arith) (omega arith)
     (λ c. (c.value.ensures ∙ sym (value_inside _ _ (omega arith)), rw c.value.ensures (value_most _)))

@@ -4,6 +4,6 @@ use Rattle.base64_encoding.specs.Base64.{encoded_length}
 use Rattle.base64_encoding.proofs.encoded_length.Statement.{statement}
 use Rattle.base64_encoding.proofs.encoded_length.Tie as tie
 
-pub encoded-length-spec : {M : Type 1} → statement M
+pub encoded_length_spec : {M : Type 1} → statement M
 unfolding encoded_length
-encoded-length-spec = tie.close (tie.spec (omega arith) (omega arith) (omega arith))
+encoded_length_spec = tie.close (tie.spec (omega arith) (omega arith) (omega arith))

@@ -5,11 +5,11 @@ use Rattle.base64_encoding.proofs.Groups.{shift_4}
 use Rattle.base64_encoding.proofs.sextet.Statement.{statement}
 use Rattle.base64_encoding.proofs.sextet.Tie as tie
 
-pub sextet-spec : {M : Type 1} → statement M
+pub sextet_spec : {M : Type 1} → statement M
 unfolding three sextet
-sextet-spec =
+sextet_spec =
     tie.close
     (tie.spec (omega arith) (omega arith) (omega arith) (omega arith) (omega arith) (omega arith) (omega arith) (omega arith) (omega arith)
     (omega arith) (omega arith) (omega arith) (omega arith)
     (λ c.
-    rw (c.before.before.byte_at.ensures.0, c.before.byte-at2.ensures.0, c.byte-at3.ensures.0) (shift_4 _ _ (omega arith))))
+    rw (c.before.before.byte_at.ensures.0, c.before.byte_at-2.ensures.0, c.byte_at-3.ensures.0) (shift_4 _ _ (omega arith))))

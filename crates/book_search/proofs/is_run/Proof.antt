@@ -6,11 +6,11 @@ use Rattle.accounts.proofs.Walking.{Counted, counted_none, counted_more, counted
 use Rattle.book_search.proofs.is_run.Statement.{statement}
 use Rattle.book_search.proofs.is_run.Tie as tie
 
-pub is-run-spec : {M : Type 1} → statement M
-is-run-spec =
+pub is_run_spec : {M : Type 1} → statement M
+is_run_spec =
     tie.close
     (tie.spec (λ book at₀ at. Counted book at) (λ book at₀ at. length book - at) (λ c. counted_none) (λ c κs. tt)
-    (λ c. counted_stops c.before.before.before.loop.invariant c.before.place_after.ensures (omega arith) c.if1.true)
-    (λ c. omega (arith, c.before.place_after.ensures))
-    (λ c. counted_more c.before.before.before.loop.invariant c.before.place_after.ensures c.if1.false)
-    (λ c. counted_end c.before.loop.invariant (omega arith)))
+    (λ c. counted_stops c.before.before.before.loop-at.invariant c.before.place_after-next.ensures (omega arith) c.if-next-at.true)
+    (λ c. omega (arith, c.before.place_after-next.ensures))
+    (λ c. counted_more c.before.before.before.loop-at.invariant c.before.place_after-next.ensures c.if-next-at.false)
+    (λ c. counted_end c.before.loop-at.invariant (omega arith)))

@@ -18,29 +18,29 @@ returns c =
     let a = start.before.before.before.before.before.args in
     let s = a.salt.now in
     let k = a.key.now in
-    let put-salt : Appended _ _ _ s _ = salt.append.ensures in
-    let put-key : Appended _ _ _ k _ = key.append2.ensures in
-    reworded (start.append-head.ensures then put-salt then put-key)
+    let put-salt : Appended _ _ _ s _ = salt.append-end.ensures in
+    let put-key : Appended _ _ _ k _ = key.append.ensures in
+    reworded (start.append_head-end.ensures then put-salt then put-key)
     (append_assoc (head a.number a.p (length s) (length k)) s k)
 
-pub append-account-spec : {M : Type 1} → statement M
-append-account-spec =
+pub append_account_spec : {M : Type 1} → statement M
+append_account_spec =
     tie.close
     (tie.spec (omega arith)
     (λ c κs.
     let start = c.before.before.before in
     let a = start.before.before.before.before.before.args in
-    omega (arith, start.append-head.ensures.next_is, start.append-head.ensures.same_length, length-head a.number a.p (length a.salt.now) (length a.key.now)))
+    omega (arith, start.append_head-end.ensures.next_is, start.append_head-end.ensures.same_length, length-head a.number a.p (length a.salt.now) (length a.key.now)))
     (λ c κs.
     let salt = c.before.before.before in
     let start = salt.before.before.before.before in
     let a = start.before.before.before.before.before.args in
     omega (
       arith,
-      start.append-head.ensures.next_is,
-      start.append-head.ensures.same_length,
-      salt.append.ensures.next_is,
-      salt.append.ensures.same_length,
+      start.append_head-end.ensures.next_is,
+      start.append_head-end.ensures.same_length,
+      salt.append-end.ensures.next_is,
+      salt.append-end.ensures.same_length,
       length-head a.number a.p (length a.salt.now) (length a.key.now),
     ))
     (omega arith) returns)

@@ -8,15 +8,15 @@ use Rattle.little_endian.proofs.ByteLaws.{length_bytes, byte_width}
 use Rattle.book_writing.proofs.append_number.Statement.{statement}
 use Rattle.book_writing.proofs.append_number.Tie as tie
 
-pub append-number-spec : {M : Type 1} → statement M
-append-number-spec =
+pub append_number_spec : {M : Type 1} → statement M
+append_number_spec =
     tie.close
     (tie.spec (λ book₀ at x n i₀ book i. Placed (λ x y. y) at book₀ (le_bytes n x) book i n) (λ book₀ at x n i₀ book i. n - i)
     (λ c. placed_none (λ x y. y) (length_bytes _ _)) (omega arith) (omega arith) (omega arith) (omega arith) (omega arith)
-    (λ c. placed_again (λ x y. y) c.before.before.loop.invariant (omega arith) refl (c.byte_of.ensures ∙ byte_width 8 _ _ _ (omega arith) (omega arith)))
-    (omega arith) (λ c. c.before.loop.invariant.long)
+    (λ c. placed_again (λ x y. y) c.before.before.loop-i.invariant (omega arith) refl (c.byte_of.ensures ∙ byte_width 8 _ _ _ (omega arith) (omega arith)))
+    (omega arith) (λ c. c.before.loop-i.invariant.long)
     (λ c.
-    let inv = c.before.loop.invariant in
+    let inv = c.before.loop-i.invariant in
     let a = c.before.before.before.args in (
       record {
         next_is = ap (λ (k : ℕ). a.at + k) (sym (length_bytes a.n a.x));

@@ -5,8 +5,8 @@ use Rattle.book_writing.proofs.Moving.{later_at, later_end}
 use Rattle.book_writing.proofs.used_byte.Statement.{statement}
 use Rattle.book_writing.proofs.used_byte.Tie as tie
 
-pub used-byte-spec : {M : Type 1} → statement M
-used-byte-spec =
+pub used_byte_spec : {M : Type 1} → statement M
+used_byte_spec =
     tie.close
     (tie.spec (omega arith) (omega arith) (omega arith)
     (λ c. let a = c.before.before.args in sym (later_at a.book.now a.used c.before.before.requires.1 a.from a.i (omega arith)))

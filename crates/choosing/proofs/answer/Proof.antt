@@ -4,5 +4,5 @@ use native.Mathlib.Omega.{arith}
 use Rattle.choosing.proofs.answer.Statement.{statement}
 use Rattle.choosing.proofs.answer.Tie as tie
 
-pub answer-spec : {M : Type 1} → statement M
-answer-spec = tie.close (tie.spec (omega arith) (omega arith) (λ c. refl))
+pub answer_spec : {M : Type 1} → statement M
+answer_spec = tie.close (tie.spec (omega arith) (omega arith) (λ c. refl))

@@ -11,6 +11,6 @@ unfolding choice_answer no_choice
 choose_spec =
     tie.close
     (tie.spec (omega arith)
-    (λ c. answered_no _ _ c.before.choice-refusal.ensures c.if1.true (ap no_choice c.before.choice-refusal.ensures))
-    (λ c κs. sym c.before.choice-refusal.ensures ∙ c.if1.false)
-    (λ c. answered-yes _ _ (sym c.before.before.choice-refusal.ensures ∙ c.before.if1.false) c.chosen.ensures))
+    (λ c. answered_no _ _ c.before.choice_refusal-number.ensures c.if-number-ne0.true (ap no_choice c.before.choice_refusal-number.ensures))
+    (λ c κs. sym c.before.choice_refusal-number.ensures ∙ c.if-number-ne0.false)
+    (λ c. answered-yes _ _ (sym c.before.before.choice_refusal-number.ensures ∙ c.before.if-number-ne0.false) c.chosen.ensures))

@@ -26,15 +26,15 @@ asked l g e =
     let turn = turn_bounds l g e in
     (omega (arith, b), turn.0, omega (arith, turn.1), omega (arith, turn.2), once l g e)
 
-cell-limit-requires : tie.Need-cell-limit-requires
+cell_limit-requires : tie.Need-cell_limit-limit-requires
 unfolding choice_checks
-cell-limit-requires c κs = let b = bounds c.args.l c.args.g c.requires in omega (arith, b)
+cell_limit-requires c κs = let b = bounds c.args.l c.args.g c.requires in omega (arith, b)
 
-time-for-requires : tie.Need-time-for-requires
-time-for-requires c κs =
+time_for-requires : tie.Need-time_for-time-requires
+time_for-requires c κs =
     let start = c.before.before.before in
     let a = start.args in
-    let s = shape_is a.l a.g c.best.ensures c.before.before.cell-limit.ensures c.before.smaller.ensures in
+    let s = shape_is a.l a.g c.best-s.ensures c.before.before.cell_limit-limit.ensures c.before.smaller.ensures in
     subst (Asked a.l a.g) (sym s) (asked a.l a.g start.requires)
 
 answer-requires : tie.Need-answer-requires
@@ -42,8 +42,8 @@ answer-requires c κs =
     let found = c.before in
     let start = found.before.before.before in
     let a = start.args in
-    let limit = found.before.before.cell-limit.ensures in
-    let s = shape_is a.l a.g found.best.ensures limit found.before.smaller.ensures in
+    let limit = found.before.before.cell_limit-limit.ensures in
+    let s = shape_is a.l a.g found.best-s.ensures limit found.before.smaller.ensures in
     omega (arith, limit, ap cells s, (best_within a.l a.g start.requires).cells_most)
 
 returns : tie.Need-returns
@@ -51,10 +51,10 @@ unfolding chosen
 returns c =
     let found = c.before.before in
     let a = found.before.before.before.args in
-    let limit : _ ≡ cell_limit a.l a.g = found.before.before.cell-limit.ensures in
-    let s = shape_is a.l a.g found.best.ensures limit found.before.smaller.ensures in
-    let time = c.before.time-for.ensures ∙ ap (time_for a.l a.g) s in
+    let limit : _ ≡ cell_limit a.l a.g = found.before.before.cell_limit-limit.ensures in
+    let s = shape_is a.l a.g found.best-s.ensures limit found.before.smaller.ensures in
+    let time = c.before.time_for-time.ensures ∙ ap (time_for a.l a.g) s in
     c.answer.ensures ∙ (λ i. answer_for (limit i) (time i) (s i))
 
-pub chosen-spec : {M : Type 1} → statement M
-chosen-spec = tie.close (tie.spec cell-limit-requires (omega arith) (omega arith) time-for-requires answer-requires returns)
+pub chosen_spec : {M : Type 1} → statement M
+chosen_spec = tie.close (tie.spec cell_limit-requires (omega arith) (omega arith) time_for-requires answer-requires returns)

@@ -7,13 +7,13 @@ use Rattle.derivation.proofs.Answering.{full_most, reduced_most}
 use Rattle.costs.proofs.cost_accepted.Statement.{statement}
 use Rattle.costs.proofs.cost_accepted.Tie as tie
 
-pub cost-accepted-spec : {M : Type 1} → statement M
+pub cost_accepted_spec : {M : Type 1} → statement M
 unfolding costs cost_checks
-cost-accepted-spec =
+cost_accepted_spec =
     tie.close
     (tie.spec (omega arith)
     (λ c. let p = c.before.before.args.p in omega (arith, cells_most p.rows p.columns (omega arith) (omega arith)))
     (λ c κs. let start = c.before.before in (omega arith, omega (arith, reduced_most start.args.l start.args.p start.requires)))
     (λ c κs.
     let start = c.before.before.before in
-    omega (arith, full_most start.args.l (omega arith), reduced_most start.args.l start.args.p start.requires, c.reduced-calls.ensures, c.before.before.full-calls.ensures)) (λ c. cc))
+    omega (arith, full_most start.args.l (omega arith), reduced_most start.args.l start.args.p start.requires, c.reduced_calls-reduced.ensures, c.before.before.full_calls-full.ensures)) (λ c. cc))

@@ -8,13 +8,13 @@ use Rattle.derivation.proofs.Answering.{full_most}
 use Rattle.costs.proofs.full_calls.Statement.{statement}
 use Rattle.costs.proofs.full_calls.Tie as tie
 
-pub full-calls-spec : {M : Type 1} → statement M
+pub full_calls_spec : {M : Type 1} → statement M
 unfolding full_cost input_blocks
-full-calls-spec =
+full_calls_spec =
     tie.close
     (tie.spec (omega arith) (omega arith)
     (λ c.
     let start = c.before.before in
-    let counted : _ ≡ pieces start.args.l.key = c.piece-count.ensures in
+    let counted : _ ≡ pieces start.args.l.key = c.piece_count.ensures in
     omega (arith, counted, full_most start.args.l start.requires))
     (λ c. cc))

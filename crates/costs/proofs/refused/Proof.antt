@@ -4,6 +4,6 @@ use Rattle.derivation.specs.Answers.{no_costs}
 use Rattle.costs.proofs.refused.Statement.{statement}
 use Rattle.costs.proofs.refused.Tie as tie
 
-pub refused-spec : {M : Type 1} → statement M
+pub refused_spec : {M : Type 1} → statement M
 unfolding no_costs
-refused-spec = tie.close (tie.spec (λ c. refl))
+refused_spec = tie.close (tie.spec (λ c. refl))

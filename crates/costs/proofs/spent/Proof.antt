@@ -11,9 +11,9 @@ use Rattle.costs.proofs.spent.Tie as tie
 rounds_most : (rounds reduced : ℕ) → rounds ≤ 12 → reduced < 2 ^ 32 → rounds * reduced ≤ 51539607552
 rounds_most rounds reduced h k = let most : reduced ≤ 4294967296 = omega arith in mul-le-mul h most
 
-pub spent-spec : {M : Type 1} → statement M
+pub spent_spec : {M : Type 1} → statement M
 unfolding spent_on
-spent-spec =
+spent_spec =
     tie.close
     (tie.spec (omega arith) (λ c. omega (arith, rounds_most c.args.p.rounds c.args.reduced (omega arith) (omega arith)))
     (λ c. omega (arith, rounds_most c.args.p.rounds c.args.reduced (omega arith) (omega arith))) (λ c. refl))

@@ -17,23 +17,23 @@ use Rattle.first_columns.proofs.copy_column.Tie as tie
 returns : tie.Need-returns
 unfolding copy_column
 returns c q e r f =
-    let start = c.before.before.before.before.before.before.before.before.before.before.before.before.before.before.before.before.before in
+    let start = c in
     let args = start.args in
     let m = args.m.now in
     let C = args.p.columns in
     let from = ap (λ (n : ℕ). cell_from n m) (start-place C q args.prev0 e args.col.0) in
-    let placed : c.before.before.before.before.before.before.before.before.before.before.before.cell-start.result ≡ cell_start args.row0 args.mirror.0 = c.before.before.before.before.before.before.before.before.before.before.before.cell-start.ensures in
+    let placed : c.cell_start-to.result ≡ cell_start args.row0 args.mirror.0 = c.cell_start-to.ensures in
     let to = placed ∙ start-place C r args.row0 f args.mirror.0 ∙ ap (place C r) start.requires.1 in
-    let call = c.before.before.before.before.before.before.before.before.before.before.before.before.duplex.ensures ∙ ap (λ (words : List ℕ). duplexed (settings args.p) words args.s.now) (c.before.before.before.before.before.before.before.before.before.before.before.before.before.cell.ensures.0 ∙ from) in
-    let out = c.before.before.before.before.before.before.before.before.before.output.ensures ∙ ap rand call in
-    let again : c.before.before.before.before.before.before.before.cell2.result.now ≡ cell_from (cell_start args.prev0 args.col.0) m = c.before.before.before.before.before.before.before.cell2.ensures.0 in
+    let call = c.duplex.ensures ∙ ap (λ (words : List ℕ). duplexed (settings args.p) words args.s.now) (c.cell.ensures.0 ∙ from) in
+    let out = c.output-rand.ensures ∙ ap rand call in
+    let again : c.cell-2.result.now ≡ cell_from (cell_start args.prev0 args.col.0) m = c.cell-2.ensures.0 in
     let read = again ∙ from in
-    let words = c.before.before.before.before.before.xored.ensures ∙ (λ i. xor_into (read i) (out i)) in
-    let put = c.before.before.put-cell.ensures ∙ (λ i. zip_at (λ (x y : ℕ). y) (to i) m (words i)) in
+    let words = c.xored-words.ensures ∙ (λ i. xor_into (read i) (out i)) in
+    let put = c.put_cell.ensures ∙ (λ i. zip_at (λ (x y : ℕ). y) (to i) m (words i)) in
     λ i. work (call i) (put i)
 
-pub copy-column-spec : {M : Type 1} → statement M
-copy-column-spec =
+pub copy_column_spec : {M : Type 1} → statement M
+copy_column_spec =
     tie.close
     (tie.spec (omega arith) (omega arith) (omega arith) (omega arith) (omega arith) (omega arith) (omega arith) (omega arith)
     (omega arith) (omega arith) returns)

@@ -9,9 +9,9 @@ use Rattle.input.specs.Input.{padded, absorb_blocks, absorb_input}
 use Rattle.input.proofs.absorb_padded.Statement.{statement}
 use Rattle.input.proofs.absorb_padded.Tie as tie
 
-pub absorb-padded-spec : {M : Type 1} → statement M
+pub absorb_padded_spec : {M : Type 1} → statement M
 unfolding absorb_blocks absorb_input absorb
-absorb-padded-spec =
+absorb_padded_spec =
     tie.close
     (tie.spec
     (λ s₀ password salt numbers mixer n calls₀ b₀ s calls b. (b ≤ n) × (calls ≡ b) × (s ≡ absorb_blocks (sum_of mixer) b (padded password salt numbers) s₀))
@@ -19,6 +19,6 @@ absorb-padded-spec =
     (omega arith) (omega arith) (omega arith)
     (λ c. (omega arith, omega arith, rw add-one (cc)))
     (λ c.
-    let n = c.before.before.block-count in
-    let at_end : c.before.loop.b ≡ n.result = omega arith in
+    let n = c.before.before.block_count-n in
+    let at_end : c.before.loop-b.b ≡ n.result = omega arith in
     (cc, omega (arith, n.ensures))))

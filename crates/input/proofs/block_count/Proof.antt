@@ -4,6 +4,6 @@ use Rattle.input.specs.Input.{blocks}
 use Rattle.input.proofs.block_count.Statement.{statement}
 use Rattle.input.proofs.block_count.Tie as tie
 
-pub block-count-spec : {M : Type 1} → statement M
+pub block_count_spec : {M : Type 1} → statement M
 unfolding blocks
-block-count-spec = tie.close (tie.spec (omega arith) (omega arith) (omega arith) (omega arith) (omega arith))
+block_count_spec = tie.close (tie.spec (omega arith) (omega arith) (omega arith) (omega arith) (omega arith))

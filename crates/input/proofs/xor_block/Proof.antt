@@ -14,16 +14,16 @@ use Rattle.input.specs.Input.{padded, blocks, block}
 use Rattle.input.proofs.xor_block.Statement.{statement}
 use Rattle.input.proofs.xor_block.Tie as tie
 
-pub xor-block-spec : {M : Type 1} → statement M
+pub xor_block_spec : {M : Type 1} → statement M
 unfolding blocks zip_at
-xor-block-spec =
+xor_block_spec =
     tie.close
     (tie.spec (λ s₀ password salt numbers b i₀ s i. Placed bit_xor 0 s₀ (block (padded password salt numbers) b) s i 8)
     (λ s₀ password salt numbers b i₀ s i. 8 - i) (λ c. placed_none bit_xor (length-words 8 _)) (omega arith) (omega arith) (omega arith) (omega arith)
     (omega arith) (omega arith) (omega arith) (omega arith) (omega arith) (omega arith)
     (λ c.
     let head = c.before.before.before in
-    placed_again bit_xor head.loop.invariant (omega arith) (omega arith)
-    (c.input-word.ensures ∙ sym (get_or-words 8 _ head.loop.i (omega arith)
-    ∙ ap (λ (l : List ℕ). le_value (take 8 l)) (drop-drop (8 * head.loop.i) (64 * head.before.before.before.before.args.b) _))))
-    (λ c. placed_end bit_xor c.before.loop.invariant (omega arith)))
+    placed_again bit_xor head.loop-i.invariant (omega arith) (omega arith)
+    (c.input_word.ensures ∙ sym (get_or-words 8 _ head.loop-i.i (omega arith)
+    ∙ ap (λ (l : List ℕ). le_value (take 8 l)) (drop-drop (8 * head.loop-i.i) (64 * head.before.before.before.before.args.b) _))))
+    (λ c. placed_end bit_xor c.before.loop-i.invariant (omega arith)))

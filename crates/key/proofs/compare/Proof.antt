@@ -9,9 +9,9 @@ use Rattle.key.proofs.Same.{Differing, differing_none, differing_more_lem, diffe
 use Rattle.key.proofs.compare.Statement.{statement}
 use Rattle.key.proofs.compare.Tie as tie
 
-pub compare-spec : {M : Type 1} → statement M
+pub compare_spec : {M : Type 1} → statement M
 unfolding pieces
-compare-spec =
+compare_spec =
     tie.close
     (tie.spec
     (λ s₀ stored mixer difference₀ calls₀ i₀ s difference calls i.
@@ -20,14 +20,14 @@ compare-spec =
     (λ c. (omega arith, differing_none (length_key _ _ _), squeezed_none _))
     (λ c κs. tt) (omega arith) (omega arith) (omega arith) (omega arith)
     (λ c.
-    let next = c.before.before.next-byte in
-    let head = c.before.before.before.before.before.loop in (
+    let next = c.before.before.next_byte-next in
+    let head = c.before.before.before.before.before.loop-i in (
       omega arith,
-      differing_more_lem head.invariant.1 (omega arith) c.before.differing.ensures
+      differing_more_lem head.invariant.1 (omega arith) c.before.differing-difference.ensures
           (squeezed_byte _ head.invariant.2 next.ensures.0 _ _ (omega arith) next.ensures.1),
       squeezed_more _ head.invariant.2 next.ensures.0 _ next.ensures.2,
     ))
     (λ c.
-    let head = c.before.loop in
+    let head = c.before.loop-i in
     let end = squeezed_end _ head.invariant.2 (omega arith) in
     (differing_end head.invariant.1 (omega arith), end.0, end.1)))

@@ -4,6 +4,6 @@ use Rattle.key.specs.Key.{pieces}
 use Rattle.key.proofs.piece_count.Statement.{statement}
 use Rattle.key.proofs.piece_count.Tie as tie
 
-pub piece-count-spec : {M : Type 1} → statement M
+pub piece_count_spec : {M : Type 1} → statement M
 unfolding pieces
-piece-count-spec = tie.close (tie.spec (omega arith) (omega arith) (omega arith))
+piece_count_spec = tie.close (tie.spec (omega arith) (omega arith) (omega arith))

@@ -5,9 +5,9 @@ use Rattle.key_bytes.proofs.KeyLaws.{no_call, one_call}
 use Rattle.key_bytes.proofs.call_between.Statement.{statement}
 use Rattle.key_bytes.proofs.call_between.Tie as tie
 
-pub call-between-spec : {M : Type 1} → statement M
+pub call_between_spec : {M : Type 1} → statement M
 unfolding pieces
-call-between-spec =
+call_between_spec =
     tie.close
     (tie.spec (λ c. no_call _ _ _ (omega arith)) (λ c. no_call _ _ _ (omega arith)) (λ c κs. tt)
-    (λ c. one_call _ _ _ _ (omega arith) c.full-call.ensures))
+    (λ c. one_call _ _ _ _ (omega arith) c.full_call.ensures))

@@ -21,22 +21,22 @@ use Rattle.lane_columns.proofs.lane_column.Tie as tie
 returns : tie.Need-returns
 unfolding lane_column lane_cells picks
 returns c r e =
-    let a = c.before.before.before.before.before.before.before.before.before.before.before.before.before.before.before.before.before.args in
+    let a = c.args in
     let C = a.p.columns in
     let m = a.m.now in
     let from : ℕ → List ℕ = λ n. cell_from n m in
-    let picked = c.before.before.before.before.before.before.before.before.before.before.before.before.before.before.pick-columns in
+    let picked = c.pick_columns-picks in
     let col0 : picked.result.col1.0 ≡ picked_by (settings a.p) 3 C a.s.now = ap (λ (q : Picks). q.col1.0) picked.ensures.is in
-    let row0 = c.before.before.before.before.before.before.before.before.before.before.before.cell.ensures.0 ∙ ap from (row0_place C r e a.col.0) in
-    let prev0 = c.before.before.before.before.before.before.before.before.before.before.cell2.ensures.0 ∙ ap from (prev0_place C r e _ ∙ ap (place C r.prev0.0) col0) in
-    let row1 = c.before.before.before.before.before.before.before.before.before.cell3.ensures.0 ∙ ap from (row1_place C r e a.col.0) in
-    let state = c.before.before.before.before.before.before.before.before.duplex-sum3.ensures ∙ (λ i. absorb (sum_of a.p.mixer) a.p.rounds (cell_sum (cell_sum (row0 i) (prev0 i)) (row1 i)) a.s.now) in
-    let at = c.before.before.before.before.before.before.before.cell-start.ensures ∙ row0_place C r e a.col.0 in
-    let out = c.before.before.before.before.before.output.ensures ∙ ap rand state in
-    let written = c.before.before.xor-cell.ensures ∙ (λ i. zip_at bit_xor (at i) m (out i)) in
+    let row0 = c.cell.ensures.0 ∙ ap from (row0_place C r e a.col.0) in
+    let prev0 = c.cell-2.ensures.0 ∙ ap from (prev0_place C r e _ ∙ ap (place C r.prev0.0) col0) in
+    let row1 = c.cell-3.ensures.0 ∙ ap from (row1_place C r e a.col.0) in
+    let state = c.duplex_sum3.ensures ∙ (λ i. absorb (sum_of a.p.mixer) a.p.rounds (cell_sum (cell_sum (row0 i) (prev0 i)) (row1 i)) a.s.now) in
+    let at = c.cell_start-at.ensures ∙ row0_place C r e a.col.0 in
+    let out = c.output-rand.ensures ∙ ap rand state in
+    let written = c.xor_cell.ensures ∙ (λ i. zip_at bit_xor (at i) m (out i)) in
     λ i. work (state i) (written i)
 
-pub lane-column-spec : {M : Type 1} → statement M
-lane-column-spec =
+pub lane_column_spec : {M : Type 1} → statement M
+lane_column_spec =
     tie.close
     (tie.spec (omega arith) (omega arith) (omega arith) (omega arith) (omega arith) (omega arith) (omega arith) (omega arith) (omega arith) (omega arith) returns)

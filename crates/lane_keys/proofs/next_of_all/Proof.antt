@@ -6,28 +6,28 @@ use Rattle.lane_keys.proofs.LaneBytes.{Arriving, arriving_none, arriving_more, a
 use Rattle.lane_keys.proofs.next_of_all.Statement.{statement}
 use Rattle.lane_keys.proofs.next_of_all.Tie as tie
 
-abbrev invariant-loop : tie.invariant-loop
+abbrev invariant-loop : tie.invariant-loop-lane
 invariant-loop states₀ lanes i mixer byte₀ calls₀ lane₀ states byte calls lane =
     (lane ≤ lanes) × (calls ≤ lane) × Arriving (sum_of mixer) i states₀ states lane byte calls
 
-abbrev decreases-loop : tie.decreases-loop
+abbrev decreases-loop : tie.decreases-loop-lane
 decreases-loop states₀ lanes i mixer byte₀ calls₀ lane₀ states byte calls lane = lanes - lane
 
-add-calls : tie.Need-overflow-add-calls invariant-loop decreases-loop
-add-calls c = omega (arith, c.before.before.before.before.before.loop.invariant.1, c.before.before.before.before.loop-test.true, c.before.before.before.before.before.before.requires, c.before.before.next-byte.ensures.2, calls_one c.before.before.before.before.before.before.args.i)
+add-calls : tie.Need-overflow_add-calls invariant-loop decreases-loop
+add-calls c = omega (arith, c.before.before.before.before.before.loop-lane.invariant.1, c.before.before.before.before.loop-lane-test.true, c.before.before.before.before.before.before.requires, c.before.before.next_byte-next.ensures.2, calls_one c.before.before.before.before.before.before.args.i)
 
-loop-again : tie.Need-loop-preserved invariant-loop decreases-loop
+loop-again : tie.Need-loop-lane-preserved invariant-loop decreases-loop
 loop-again c =
-    let v = c.before.before.before.before.before.loop in
-    let next = c.before.before.next-byte in (
-      omega (arith, c.before.before.before.before.loop-test.true),
+    let v = c.before.before.before.before.before.loop-lane in
+    let next = c.before.before.next_byte-next in (
+      omega (arith, c.before.before.before.before.loop-lane-test.true),
       omega (arith, v.invariant.1, next.ensures.2, calls_one c.before.before.before.before.before.before.args.i),
-      arriving_more _ _ _ v.invariant.2 (omega (arith, c.before.before.before.before.loop-test.true, c.before.before.before.before.before.before.requires.0)) _ _ _ next.ensures.0 next.ensures.1 next.ensures.2,
+      arriving_more _ _ _ v.invariant.2 (omega (arith, c.before.before.before.before.loop-lane-test.true, c.before.before.before.before.before.before.requires.0)) _ _ _ next.ensures.0 next.ensures.1 next.ensures.2,
     )
 
-pub next-of-all-spec : {M : Type 1} → statement M
-next-of-all-spec =
+pub next_of_all_spec : {M : Type 1} → statement M
+next_of_all_spec =
     tie.close
     (tie.spec invariant-loop decreases-loop (λ c. (omega arith, omega arith, arriving_none _ _ _)) (omega arith)
-    (λ c. omega (arith, c.loop-test.true, c.before.loop.invariant.2.as_many, c.before.before.requires.0)) (λ c κs. tt) add-calls (omega arith) (omega arith) loop-again
-    (λ c. c.before.loop.invariant.2.as_many) (λ c. arriving_end _ _ _ c.before.loop.invariant.2 (omega arith)))
+    (λ c. omega (arith, c.loop-lane-test.true, c.before.loop-lane.invariant.2.as_many, c.before.before.requires.0)) (λ c κs. tt) add-calls (omega arith) (omega arith) loop-again
+    (λ c. c.before.loop-lane.invariant.2.as_many) (λ c. arriving_end _ _ _ c.before.loop-lane.invariant.2 (omega arith)))

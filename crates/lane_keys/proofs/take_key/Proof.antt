@@ -16,49 +16,49 @@ use Rattle.lane_keys.proofs.take_key.Tie as tie
 abbrev set : ℕ → ℕ → ℕ
 set x y = y
 
-abbrev invariant-loop : tie.invariant-loop
+abbrev invariant-loop : tie.invariant-loop-i
 invariant-loop states₀ lanes bytes key₀ stored mixer difference₀ calls₀ i₀ states key difference calls i =
     Placed set 0 key₀ (keys_xored (sum_of mixer) lanes bytes states₀) key i bytes
     × (length stored ≡ bytes → Differing stored (keys_xored (sum_of mixer) lanes bytes states₀) i difference)
     × AllSqueezed (sum_of mixer) lanes states₀ i states calls
 
-abbrev decreases-loop : tie.decreases-loop
+abbrev decreases-loop : tie.decreases-loop-i
 decreases-loop states₀ lanes bytes key₀ stored mixer difference₀ calls₀ i₀ states key difference calls i = bytes - i
 
-next-of-all-requires : tie.Need-next-of-all-requires invariant-loop decreases-loop
-next-of-all-requires c κs = (c.before.before.loop.invariant.2.as_many ∙ c.before.before.before.before.before.requires.0, omega (arith, c.before.before.before.before.before.requires.1))
+next_of_all-requires : tie.Need-next_of_all-next-requires invariant-loop decreases-loop
+next_of_all-requires c κs = (c.before.before.loop-i.invariant.2.as_many ∙ c.before.before.before.before.before.requires.0, omega (arith, c.before.before.before.before.before.requires.1))
 
-add-calls : tie.Need-overflow-add-calls invariant-loop decreases-loop
+add-calls : tie.Need-overflow_add-calls invariant-loop decreases-loop
 add-calls c =
-    let v = c.before.before.before.before.before.before.before.before.before.before.loop in
+    let v = c.before.before.before.before.before.before.before.before.before.before.loop-i in
     let pre = c.before.before.before.before.before.before.before.before.before.before.before.before.before.requires in
-    omega (arith, all_few _ _ (all_more _ _ v.invariant.2 c.before.before.before.before.before.before.before.next-of-all.ensures) pre.1 (omega (arith, c.before.before.before.before.before.before.before.before.before.loop-test.true, pre.2)))
+    omega (arith, all_few _ _ (all_more _ _ v.invariant.2 c.before.before.before.before.before.before.before.next_of_all-next.ensures) pre.1 (omega (arith, c.before.before.before.before.before.before.before.before.before.loop-i-test.true, pre.2)))
 
-loop-again : tie.Need-loop-preserved invariant-loop decreases-loop
+loop-again : tie.Need-loop-i-preserved invariant-loop decreases-loop
 unfolding zip_at
 loop-again c =
-    let v = c.before.before.before.before.before.before.before.before.before.before.loop in
-    let lt = c.before.before.before.before.before.before.before.before.before.loop-test.true in
-    let next = c.before.before.before.before.before.before.before.next-of-all.ensures in
+    let v = c.before.before.before.before.before.before.before.before.before.before.loop-i in
+    let lt = c.before.before.before.before.before.before.before.before.before.loop-i-test.true in
+    let next = c.before.before.before.before.before.before.before.next_of_all-next.ensures in
     let byte = all_byte _ _ v.invariant.2 next _ lt in (
       rw c.before.before.before.before.put_byte.ensures (placed_again set v.invariant.0 lt (omega arith) byte),
-      λ e. differing_more_lem (v.invariant.1 e) (omega (arith, e, lt)) (c.before.differing-more.ensures (omega (arith, e, lt))) byte,
+      λ e. differing_more_lem (v.invariant.1 e) (omega (arith, e, lt)) (c.before.differing_more-difference.ensures (omega (arith, e, lt))) byte,
       all_more _ _ v.invariant.2 next,
     )
 
 returns : tie.Need-returns invariant-loop decreases-loop
 unfolding zip_at
 returns c =
-    let v = c.before.loop in
+    let v = c.before.loop-i in
     record {
       key_is = placed_end set v.invariant.0 (omega arith);
       same_is = λ e. differing_end (v.invariant.1 e) (omega (arith, e));
       calls = all_end _ _ v.invariant.2 (omega arith);
     }
 
-pub take-key-spec : {M : Type 1} → statement M
+pub take_key_spec : {M : Type 1} → statement M
 unfolding zip_at
-take-key-spec =
+take_key_spec =
     tie.close
-    (tie.spec invariant-loop decreases-loop (λ c. (placed_none set (length_keys _ _ _ _), λ e. differing_none (length_keys _ _ _ _ ∙ sym e), all_none _ _)) next-of-all-requires (λ c κs. tt) (λ c κs. tt) add-calls (omega arith) (omega arith) loop-again
-    (λ c. c.before.loop.invariant.2.as_many) (omega arith) returns)
+    (tie.spec invariant-loop decreases-loop (λ c. (placed_none set (length_keys _ _ _ _), λ e. differing_none (length_keys _ _ _ _ ∙ sym e), all_none _ _)) next_of_all-requires (λ c κs. tt) (λ c κs. tt) add-calls (omega arith) (omega arith) loop-again
+    (λ c. c.before.loop-i.invariant.2.as_many) (omega arith) returns)

@@ -18,25 +18,25 @@ use Rattle.lanes.proofs.InTurn.{few, calls_most, added, row_first, row_next, row
 use Rattle.lane_setup.proofs.set_up_lanes.Statement.{statement}
 use Rattle.lane_setup.proofs.set_up_lanes.Tie as tie
 
-abbrev invariant-loop : tie.invariant-loop
+abbrev invariant-loop : tie.invariant-loop-first
 invariant-loop states₀ m₀ shape p calls₀ o₀ first₀ next₀ t₀ states m calls o first next t =
     (t ≤ shape.rows) × (first ≡ first_row t) × (first < shape.rows → next ≡ first_row (suc t)) × (o ≡ order (min first shape.rows - 3))
     × (calls ≡ shape.lanes * (min first shape.rows * p.columns)) × (length states ≡ length states₀) × (length m ≡ length m₀)
     × (works states m ≡ loop (λ (i : ℕ). setup_in_turn (settings p) shape.lanes shape.rows i (first_row i - 3) (rows_in shape.rows i)) t (works states₀ m₀))
 
-abbrev decreases-loop : tie.decreases-loop
+abbrev decreases-loop : tie.decreases-loop-first
 decreases-loop states₀ m₀ shape p calls₀ o₀ first₀ next₀ t₀ states m calls o first next t = shape.rows - first
 
-loop-holds : tie.Need-loop-init invariant-loop decreases-loop
+loop-holds : tie.Need-loop-first-init invariant-loop decreases-loop
 unfolding order
 loop-holds c =
-    let a = c.before.before.before.before.before.before.before.before.args in
-    let three : min 3 a.lanes.rows ≡ 3 = omega (arith, c.before.before.before.before.before.before.before.before.requires.0.rows_least) in (
+    let a = c.args in
+    let three : min 3 a.lanes.rows ≡ 3 = omega (arith, c.requires.0.rows_least) in (
       omega arith,
       sym row_first.0,
       λ lt. sym row_first.1,
-      c.first.ensures ∙ ap order (sym (ap (λ (n : ℕ). n - 3) three)),
-      c.before.before.before.before.first-in-turn.ensures.0 ∙ ap (λ (n : ℕ). a.lanes.lanes * (n * a.p.columns)) (sym three),
+      c.first-o.ensures ∙ ap order (sym (ap (λ (n : ℕ). n - 3) three)),
+      c.first_in_turn-calls.ensures.0 ∙ ap (λ (n : ℕ). a.lanes.lanes * (n * a.p.columns)) (sym three),
       refl,
       refl,
       loop_none _ _,
@@ -55,73 +55,73 @@ module _ (n first next t end : ℕ) (before : first < n) (is : first ≡ first_r
   counted : end - first ≡ rows_in n t
   counted = ap₂ (λ (x y : ℕ). x - y) (at ∙ ap (λ (k : ℕ). min k n) then) is
 
-sub-setup-in-turn : tie.Need-overflow-sub-setup-in-turn invariant-loop decreases-loop
-sub-setup-in-turn c =
-    let v = c.before.before.before.before.before.loop in
-    let lt = c.before.before.before.if1.true in
-    (ordered _ _ _ v.t _ lt v.invariant.1 (v.invariant.2 lt) c.before.before.earlier.ensures).0
+sub-setup_in_turn : tie.Need-overflow_sub-first invariant-loop decreases-loop
+sub-setup_in_turn c =
+    let v = c.loop-first in
+    let lt = c.loop-first-test.true in
+    (ordered _ _ _ v.t _ lt v.invariant.1 (v.invariant.2 lt) c.earlier-end.ensures).0
 
-sub-setup-in-turn-2 : tie.Need-overflow-sub-setup-in-turn-2 invariant-loop decreases-loop
-sub-setup-in-turn-2 c =
-    let v = c.before.before.before.before.before.loop in
-    let lt = c.before.before.before.if1.true in
-    (ordered _ _ _ v.t _ lt v.invariant.1 (v.invariant.2 lt) c.before.before.earlier.ensures).1
+sub-setup_in_turn-2 : tie.Need-overflow_sub-end invariant-loop decreases-loop
+sub-setup_in_turn-2 c =
+    let v = c.loop-first in
+    let lt = c.loop-first-test.true in
+    (ordered _ _ _ v.t _ lt v.invariant.1 (v.invariant.2 lt) c.earlier-end.ensures).1
 
-setup-in-turn-requires : tie.Need-setup-in-turn-requires invariant-loop decreases-loop
-setup-in-turn-requires c κs =
-    let v = c.before.before.before.before.before.loop in
-    let pre = c.before.before.before.before.before.before.before.before.before.before.before.before.before.before.requires in
-    let lt = c.before.before.before.if1.true in
-    let o = ordered _ _ _ v.t _ lt v.invariant.1 (v.invariant.2 lt) c.before.before.earlier.ensures in
-    let here : min v.first c.before.before.before.before.before.before.before.before.before.before.before.before.before.before.args.lanes.rows ≡ v.first = omega (arith, lt) in (
-      rw (v.invariant.6 ∙ c.before.before.before.before.before.before.before.before.before.before.first-in-turn.auto.1.0) pre.0,
-      v.invariant.5 ∙ c.before.before.before.before.before.before.before.before.before.before.first-in-turn.auto.0 ∙ pre.1,
+setup_in_turn-requires : tie.Need-setup_in_turn-done-requires invariant-loop decreases-loop
+setup_in_turn-requires c κs =
+    let v = c.loop-first in
+    let pre = c.requires in
+    let lt = c.loop-first-test.true in
+    let o = ordered _ _ _ v.t _ lt v.invariant.1 (v.invariant.2 lt) c.earlier-end.ensures in
+    let here : min v.first c.args.lanes.rows ≡ v.first = omega (arith, lt) in (
+      rw (v.invariant.6 ∙ c.first_in_turn-calls.auto.m) pre.0,
+      v.invariant.5 ∙ c.first_in_turn-calls.auto.states ∙ pre.1,
       omega (arith, v.invariant.0, (few 0 pre.0 (omega arith)).rows),
       v.invariant.3 ∙ ap (λ (k : ℕ). order (k - 3)) here,
       omega (arith, o),
     )
 
-add-calls : tie.Need-overflow-add-calls invariant-loop decreases-loop
+add-calls : tie.Need-overflow_add-calls invariant-loop decreases-loop
 add-calls c =
-    let v = c.before.before.before.before.before.before.before.before.before.before.before.loop in
-    let a = c.before.before.before.before.before.before.before.before.before.before.before.before.before.before.before.before.before.before.before.before.args in
-    let pre = c.before.before.before.before.before.before.before.before.before.before.before.before.before.before.before.before.before.before.before.before.requires in
-    let lt = c.before.before.before.before.before.before.before.before.before.if1.true in
+    let v = c.loop-first in
+    let a = c.args in
+    let pre = c.requires in
+    let lt = c.loop-first-test.true in
     let f = few 0 pre.0 (omega arith) in
-    let o = ordered _ _ _ v.t _ lt v.invariant.1 (v.invariant.2 lt) c.before.before.before.before.before.before.before.before.earlier.ensures in
-    let total : v.calls + c.before.before.before.before.before.setup-in-turn.result.calls ≡ a.lanes.lanes * (min v.next a.lanes.rows * a.p.columns) =
-    added a.lanes.lanes a.p.columns v.first v.next a.lanes.rows v.calls _ _ lt o.3 v.invariant.4 c.before.before.before.before.before.before.before.before.earlier.ensures c.before.before.before.before.before.setup-in-turn.ensures.1 in
+    let o = ordered _ _ _ v.t _ lt v.invariant.1 (v.invariant.2 lt) c.earlier-end.ensures in
+    let total : v.calls + c.setup_in_turn-done.result.calls ≡ a.lanes.lanes * (min v.next a.lanes.rows * a.p.columns) =
+    added a.lanes.lanes a.p.columns v.first v.next a.lanes.rows v.calls _ _ lt o.3 v.invariant.4 c.earlier-end.ensures c.setup_in_turn-done.ensures.1 in
     omega (arith, total, calls_most a.lanes.lanes (min v.next a.lanes.rows) a.p.columns f.lanes (omega (arith, f.rows)) pre.0.columns_most)
 
-add-next : tie.Need-overflow-add-next invariant-loop decreases-loop
+add-next : tie.Need-overflow_add-next invariant-loop decreases-loop
 add-next c =
-    let v = c.before.before.before.before.before.before.before.before.before.before.before.before.loop in
-    let a = c.before.before.before.before.before.before.before.before.before.before.before.before.before.before.before.before.before.before.before.before.before.args in
-    let lt = c.before.before.before.before.before.before.before.before.before.before.if1.true in
-    let k = v.first - 3 + (c.before.before.before.before.before.before.before.before.before.earlier.result - v.first) in
-    let o = ordered _ _ _ v.t _ lt v.invariant.1 (v.invariant.2 lt) c.before.before.before.before.before.before.before.before.before.earlier.ensures in
-    let small : c.before.before.before.before.before.before.setup-in-turn.result.order.sqrt ≤ 3 + k = rw c.before.before.before.before.before.before.setup-in-turn.ensures.0 (sqrt_most k) in
-    omega (arith, small, o, v.invariant.1, v.invariant.2 lt, (row_steps v.t).1, (few 0 c.before.before.before.before.before.before.before.before.before.before.before.before.before.before.before.before.before.before.before.before.before.requires.0 (omega arith)).rows)
+    let v = c.loop-first in
+    let a = c.args in
+    let lt = c.loop-first-test.true in
+    let k = v.first - 3 + (c.earlier-end.result - v.first) in
+    let o = ordered _ _ _ v.t _ lt v.invariant.1 (v.invariant.2 lt) c.earlier-end.ensures in
+    let small : c.setup_in_turn-done.result.order.sqrt ≤ 3 + k = rw c.setup_in_turn-done.ensures.0 (sqrt_most k) in
+    omega (arith, small, o, v.invariant.1, v.invariant.2 lt, (row_steps v.t).1, (few 0 c.requires.0 (omega arith)).rows)
 
-add-t : tie.Need-overflow-add-t invariant-loop decreases-loop
-add-t c = omega (arith, c.before.before.before.before.before.before.before.before.before.before.before.before.loop.invariant.0, (few 0 c.before.before.before.before.before.before.before.before.before.before.before.before.before.before.before.before.before.before.before.before.before.requires.0 (omega arith)).rows)
+add-t : tie.Need-overflow_add-t invariant-loop decreases-loop
+add-t c = omega (arith, c.loop-first.invariant.0, (few 0 c.requires.0 (omega arith)).rows)
 
-loop-less : tie.Need-loop-smaller invariant-loop decreases-loop
+loop-less : tie.Need-loop-first-smaller invariant-loop decreases-loop
 loop-less c =
-    let v = c.before.before.before.before.before.before.before.before.before.before.before.before.loop in
-    let lt = c.before.before.before.before.before.before.before.before.before.before.if1.true in
-    omega (arith, lt, (ordered _ _ _ v.t _ lt v.invariant.1 (v.invariant.2 lt) c.before.before.before.before.before.before.before.before.before.earlier.ensures).3)
+    let v = c.loop-first in
+    let lt = c.loop-first-test.true in
+    omega (arith, lt, (ordered _ _ _ v.t _ lt v.invariant.1 (v.invariant.2 lt) c.earlier-end.ensures).3)
 
-loop-again : tie.Need-loop-preserved invariant-loop decreases-loop
+loop-again : tie.Need-loop-first-preserved invariant-loop decreases-loop
 loop-again c =
-    let v = c.before.before.before.before.before.before.before.before.before.before.before.before.loop in
-    let a = c.before.before.before.before.before.before.before.before.before.before.before.before.before.before.before.before.before.before.before.before.before.args in
+    let v = c.loop-first in
+    let a = c.args in
     let n = a.lanes.rows in
-    let lt = c.before.before.before.before.before.before.before.before.before.before.if1.true in
+    let lt = c.loop-first-test.true in
     let next_is = v.invariant.2 lt in
-    let at = c.before.before.before.before.before.before.before.before.before.earlier.ensures in
+    let at = c.earlier-end.ensures in
     let o = ordered _ _ _ v.t _ lt v.invariant.1 next_is at in
-    let done = c.before.before.before.before.before.before.setup-in-turn in
+    let done = c.setup_in_turn-done in
     let turned : done.result.order ≡ order (min v.next n - 3) = done.ensures.0 ∙ ap order (reached _ _ _ v.t _ lt v.invariant.1 next_is at) in
     let S = settings a.p in (
       omega (arith, v.invariant.1, row_least v.t, lt),
@@ -133,8 +133,8 @@ loop-again c =
           ∙ sym (row_next v.t) ∙ ap (λ (k : ℕ). first_row (suc k)) (sym (add-one v.t)),
       turned,
       added a.lanes.lanes a.p.columns v.first v.next n v.calls _ _ lt o.3 v.invariant.4 at done.ensures.1,
-      done.auto.0 ∙ v.invariant.5,
-      done.auto.1.0 ∙ v.invariant.6,
+      done.auto.states ∙ v.invariant.5,
+      done.auto.m ∙ v.invariant.6,
       loop_more _ _ _ _ _ v.invariant.7
           (done.ensures.2
           ∙ ap₂ (λ (k count : ℕ). setup_in_turn S a.lanes.lanes n v.t k count (works v.states v.m)) (ap (λ (k : ℕ). k - 3) v.invariant.1) (counted _ _ _ v.t _ lt v.invariant.1 next_is at)),
@@ -143,20 +143,20 @@ loop-again c =
 returns : tie.Need-returns invariant-loop decreases-loop
 unfolding setup_lanes
 returns c =
-    let v = c.before.before.loop in
-    let a = c.before.before.before.before.before.before.before.before.before.before.before.args in
+    let v = c.loop-first in
+    let a = c.args in
     let n = a.lanes.rows in
     let S = settings a.p in
-    let past : n ≤ v.first = omega (arith, c.if1.false) in
+    let past : n ≤ v.first = omega (arith, c.loop-first-test.false) in
     let all : min v.first n ≡ n = omega arith in (
       v.invariant.3 ∙ ap (λ (k : ℕ). order (k - 3)) all,
       v.invariant.4 ∙ ap (λ (k : ℕ). a.lanes.lanes * (k * a.p.columns)) all ∙ sym (mul_assoc a.lanes.lanes n a.p.columns),
       v.invariant.7 ∙ rows_over S a.lanes.lanes n v.t n _ (rw (← v.invariant.1) past) v.invariant.0
-          ∙ ap (loop (λ (i : ℕ). setup_in_turn S a.lanes.lanes n i (first_row i - 3) (rows_in n i)) n) c.before.before.before.before.before.before.before.first-in-turn.ensures.1,
+          ∙ ap (loop (λ (i : ℕ). setup_in_turn S a.lanes.lanes n i (first_row i - 3) (rows_in n i)) n) c.first_in_turn-calls.ensures.1,
     )
 
-pub set-up-lanes-spec : {M : Type 1} → statement M
-set-up-lanes-spec =
+pub set_up_lanes_spec : {M : Type 1} → statement M
+set_up_lanes_spec =
     tie.close
-    (tie.spec invariant-loop decreases-loop (λ c κs. (c.before.before.before.requires.0, c.before.before.before.requires.1)) (λ c κs. tt) loop-holds (λ c κs. tt) sub-setup-in-turn sub-setup-in-turn-2 setup-in-turn-requires add-calls add-next add-t loop-less loop-again
-    (λ c. c.before.before.loop.invariant.5 ∙ c.before.before.before.before.before.before.before.first-in-turn.auto.0) (λ c. c.before.before.loop.invariant.6 ∙ c.before.before.before.before.before.before.before.first-in-turn.auto.1.0) returns)
+    (tie.spec invariant-loop decreases-loop (λ c κs. (c.requires.0, c.requires.1)) (λ c κs. tt) loop-holds (λ c κs. tt) sub-setup_in_turn sub-setup_in_turn-2 setup_in_turn-requires add-calls add-next add-t loop-less loop-again
+    (λ c. c.loop-first.invariant.5 ∙ c.first_in_turn-calls.auto.states) (λ c. c.loop-first.invariant.6 ∙ c.first_in_turn-calls.auto.m) returns)

@@ -6,8 +6,8 @@ use Rattle.lanes.proofs.Halves.{half_le, in_lane_lem}
 use Rattle.lane_visits.proofs.half_row.Statement.{statement}
 use Rattle.lane_visits.proofs.half_row.Tie as tie
 
-pub half-row-spec : {M : Type 1} → statement M
-half-row-spec =
+pub half_row_spec : {M : Type 1} → statement M
+half_row_spec =
     tie.close
     (tie.spec (omega arith) (λ c. omega (arith, half_le c.args.t (c.args.n / 2))) (λ c. omega (arith, half_le c.args.t (c.args.n / 2))) (λ c. omega (arith, half_le c.args.t (c.args.n / 2)))
     (λ c. let a = c.args in (refl, (in_lane_lem a.n a.i a.t a.x c.requires.0).0, (in_lane_lem a.n a.i a.t a.x c.requires.0).1)))

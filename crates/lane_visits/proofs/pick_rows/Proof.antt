@@ -11,15 +11,15 @@ use Rattle.lanes.specs.LaneVisits.{half_row, picked_lane_rows}
 use Rattle.lane_visits.proofs.pick_rows.Statement.{statement}
 use Rattle.lane_visits.proofs.pick_rows.Tie as tie
 
-half-row-requires : tie.Need-half-row-requires
-half-row-requires c κs =
+half_row-requires : tie.Need-half_row-requires
+half_row-requires c κs =
     let a = c.before.before.before.before.args in
     (c.picked.ensures.1, omega (arith, row_before a.i a.lanes.lanes a.lanes.rows c.before.before.before.before.requires.2))
 
-half-row-requires-2 : tie.Need-half-row-requires-2
-half-row-requires-2 c κs =
+half_row-requires-2 : tie.Need-half_row-requires-2
+half_row-requires-2 c κs =
     let a = c.before.before.before.before.before.before.before.before.before.args in
-    (c.picked3.ensures.1, omega (arith, row_before c.before.before.picked2.result a.lanes.lanes a.lanes.rows c.before.before.picked2.ensures.1))
+    (c.picked-2.ensures.1, omega (arith, row_before c.before.before.picked-lane.result a.lanes.lanes a.lanes.rows c.before.before.picked-lane.ensures.1))
 
 returns : tie.Need-returns
 unfolding picked_lane_rows
@@ -30,14 +30,14 @@ returns c =
     let s = a.s.now in
     let n = a.lanes.rows in
     let ω = a.p.rotation in
-    let first = c.before.before.before.before.before.half-row.ensures in
-    let other = c.half-row2.ensures in
-    let lane = c.before.before.before.picked2 in
+    let first = c.before.before.before.before.before.half_row.ensures in
+    let other = c.half_row-2.ensures in
+    let lane = c.before.before.before.picked-lane in
     let at0 : 0 ≡ 0 * ω % 12 = omega arith in
-    let at1 : c.before.before.before.before.before.before.before.before.before.place_after.result ≡ 1 * ω % 12 = c.before.before.before.before.before.before.before.before.before.place_after.ensures.0 ∙ omega arith in
-    let at2 : c.before.before.before.before.before.before.before.before.place-after2.result ≡ 2 * ω % 12 = c.before.before.before.before.before.before.before.before.place-after2.ensures.0 ∙ omega arith in
+    let at1 : c.before.before.before.before.before.before.before.before.before.place_after-second.result ≡ 1 * ω % 12 = c.before.before.before.before.before.before.before.before.before.place_after-second.ensures.0 ∙ omega arith in
+    let at2 : c.before.before.before.before.before.before.before.before.place_after-third.result ≡ 2 * ω % 12 = c.before.before.before.before.before.before.before.before.place_after-third.ensures.0 ∙ omega arith in
     let row0 = picked_by_lem S 0 (n / 2) s at0 c.before.before.before.before.before.before.picked.ensures.0 in
-    let row1 = picked_by_lem S 1 (n / 2) s at1 c.before.picked3.ensures.0 in
+    let row1 = picked_by_lem S 1 (n / 2) s at1 c.before.picked-2.ensures.0 in
     let j = picked_by_lem S 2 a.lanes.lanes s at2 lane.ensures.0 in
     let e0 = first.0 ∙ (λ i. half_row n a.i a.t (row0 i)) in
     let e1 = other.0 ∙ (λ i. half_row n (j i) (add-one a.t i) (row1 i)) in (
@@ -46,8 +46,8 @@ returns c =
       omega (arith, other.2, row_before lane.result a.lanes.lanes n lane.ensures.1),
     )
 
-pub pick-rows-spec : {M : Type 1} → statement M
-pick-rows-spec =
+pub pick_rows_spec : {M : Type 1} → statement M
+pick_rows_spec =
     tie.close
-    (tie.spec (omega arith) (omega arith) (omega arith) (omega arith) half-row-requires (omega arith) (omega arith) (omega arith) (omega arith) (omega arith)
-    (omega arith) (omega arith) half-row-requires-2 returns)
+    (tie.spec (omega arith) (omega arith) (omega arith) (omega arith) half_row-requires (omega arith) (omega arith) (omega arith) (omega arith) (omega arith)
+    (omega arith) (omega arith) half_row-requires-2 returns)

@@ -10,31 +10,31 @@ use Rattle.lanes.specs.LaneVisits.{lane_walk, picked_lane_rows, visited_row, vis
 use Rattle.lane_visits.proofs.visit.Statement.{statement}
 use Rattle.lane_visits.proofs.visit.Tie as tie
 
-visit-row-requires : tie.Need-visit-row-requires
+visit_row-requires : tie.Need-visit_row-calls-requires
 unfolding picked_lane_rows
-visit-row-requires c κs =
-    let picked = c.before.before.pick-rows.ensures in
-    let a = c.before.before.before.before.before.args in
-    let pre = c.before.before.before.before.before.requires in
-    let prev : c.before.before.pick-rows.result.prev0.0 ≡ a.prev0 = ap (λ (q : Rows). q.prev0.0) picked.0 in
-    let last : c.before.before.pick-rows.result.prev1.0 ≡ a.prev0 = ap (λ (q : Rows). q.prev1.0) picked.0 in
+visit_row-requires c κs =
+    let picked = c.pick_rows-rows.ensures in
+    let a = c.args in
+    let pre = c.requires in
+    let prev : c.pick_rows-rows.result.prev0.0 ≡ a.prev0 = ap (λ (q : Rows). q.prev0.0) picked.0 in
+    let last : c.pick_rows-rows.result.prev1.0 ≡ a.prev0 = ap (λ (q : Rows). q.prev1.0) picked.0 in
     within (a.lanes.lanes * a.lanes.rows) a.p.columns _ pre.0.room _ picked.1 picked.2
     (rw prev pre.3) (rw last pre.3)
 
 returns : tie.Need-returns
 unfolding visit_of
 returns c =
-    let a = c.before.before.before.before.before.before.before.before.before.args in
-    let picked = c.before.before.before.before.before.before.pick-rows.ensures in
+    let a = c.args in
+    let picked = c.pick_rows-rows.ensures in
     let S = settings a.p in
     let w = work a.s.now a.m.now in
-    let visited = c.before.before.before.visit-row.ensures in (
+    let visited = c.visit_row-calls.ensures in (
       visited.0,
       picked.1,
-      ap (λ (v : _). lane_walk v c.before.before.before.before.before.before.pick-rows.result.row0.0) visited.1
+      ap (λ (v : _). lane_walk v c.pick_rows-rows.result.row0.0) visited.1
           ∙ ap (λ (r : Rows). lane_walk (visited_row S r w) r.row0.0) picked.0,
     )
 
-pub visit-spec : {M : Type 1} → statement M
-visit-spec =
-    tie.close (tie.spec (λ c κs. let pre = c.before.before.requires in (pre.0.rows_least, omega (arith, pre.0.rows_most), pre.1, pre.2)) visit-row-requires (omega arith) returns)
+pub visit_spec : {M : Type 1} → statement M
+visit_spec =
+    tie.close (tie.spec (λ c κs. let pre = c.requires in (pre.0.rows_least, omega (arith, pre.0.rows_most), pre.1, pre.2)) visit_row-requires (omega arith) returns)

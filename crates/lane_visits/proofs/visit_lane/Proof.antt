@@ -12,50 +12,50 @@ use Rattle.lanes.specs.LaneVisits.{lane_walk, visits_of}
 use Rattle.lane_visits.proofs.visit_lane.Statement.{statement}
 use Rattle.lane_visits.proofs.visit_lane.Tie as tie
 
-abbrev invariant-loop : tie.invariant-loop
+abbrev invariant-loop : tie.invariant-loop-k
 invariant-loop s₀ m₀ prev0 lanes t i count p row0₀ calls₀ k₀ s m row0 calls k =
     (k ≤ count) × (calls ≡ k * p.columns) × (length m ≡ length m₀) × (row0 < lanes.lanes * lanes.rows)
     × (lane_walk (work s m) row0 ≡ visits_of (settings p) lanes.lanes lanes.rows t i k (lane_walk (work s₀ m₀) prev0))
 
-abbrev decreases-loop : tie.decreases-loop
+abbrev decreases-loop : tie.decreases-loop-k
 decreases-loop s₀ m₀ prev0 lanes t i count p row0₀ calls₀ k₀ s m row0 calls k = count - k
 
-loop-holds : tie.Need-loop-init invariant-loop decreases-loop
+loop-holds : tie.Need-loop-k-init invariant-loop decreases-loop
 unfolding visits_of
-loop-holds c = (omega arith, sym (zero-mul _), refl, c.before.requires.3, loop_none _ _)
+loop-holds c = (omega arith, sym (zero-mul _), refl, c.requires.3, loop_none _ _)
 
-visit-requires : tie.Need-visit-requires invariant-loop decreases-loop
+visit-requires : tie.Need-visit-v-requires invariant-loop decreases-loop
 visit-requires c κs =
-    let pre = c.before.before.before.before.before.requires in
-    let v = c.before.before.before.loop in
+    let pre = c.requires in
+    let v = c.loop-k in
     (rw v.invariant.2 pre.0, pre.1, pre.2, v.invariant.3)
 
-add-calls : tie.Need-overflow-add-calls invariant-loop decreases-loop
+add-calls : tie.Need-overflow_add-calls invariant-loop decreases-loop
 add-calls c =
-    let v = c.before.before.before.before.before.before.before.loop in
-    let a = c.before.before.before.before.before.before.before.before.before.args in
-    omega (arith, v.invariant.1, c.before.before.before.visit.ensures.0, c.before.before.before.before.before.before.before.before.before.requires.4, row_before v.k a.count a.p.columns c.before.before.before.before.before.before.loop-test.true)
+    let v = c.loop-k in
+    let a = c.args in
+    omega (arith, v.invariant.1, c.visit-v.ensures.0, c.requires.4, row_before v.k a.count a.p.columns c.loop-k-test.true)
 
-loop-again : tie.Need-loop-preserved invariant-loop decreases-loop
+loop-again : tie.Need-loop-k-preserved invariant-loop decreases-loop
 unfolding visits_of
 loop-again c =
-    let v = c.before.before.before.before.before.before.before.loop in
-    let stepped = c.before.before.before.visit in
-    let a = c.before.before.before.before.before.before.before.before.before.args in (
+    let v = c.loop-k in
+    let stepped = c.visit-v in
+    let a = c.args in (
       omega arith,
       omega (arith, stepped.ensures.0, v.invariant.1, row_more v.k a.p.columns),
-      stepped.auto.1.0 ∙ v.invariant.2,
+      stepped.auto.m ∙ v.invariant.2,
       stepped.ensures.1,
       loop_more _ _ _ _ _ v.invariant.4 stepped.ensures.2,
     )
 
 returns : tie.Need-returns invariant-loop decreases-loop
 returns c =
-    let v = c.before.loop in
-    let at_end : v.k ≡ c.before.before.before.args.count = omega arith in
+    let v = c.loop-k in
+    let at_end : v.k ≡ c.args.count = omega arith in
     rw (← at_end) (v.invariant.1, v.invariant.3, v.invariant.4)
 
-pub visit-lane-spec : {M : Type 1} → statement M
-visit-lane-spec =
+pub visit_lane_spec : {M : Type 1} → statement M
+visit_lane_spec =
     tie.close
-    (tie.spec invariant-loop decreases-loop loop-holds visit-requires add-calls (omega arith) (omega arith) loop-again (λ c. c.before.loop.invariant.2) returns)
+    (tie.spec invariant-loop decreases-loop loop-holds visit-requires add-calls (omega arith) (omega arith) loop-again (λ c. c.loop-k.invariant.2) returns)

@@ -11,22 +11,22 @@ use Rattle.lanes.specs.LaneVisits.{visited_row}
 use Rattle.lane_visits.proofs.visit_row.Statement.{statement}
 use Rattle.lane_visits.proofs.visit_row.Tie as tie
 
-abbrev invariant-loop : tie.invariant-loop
+abbrev invariant-loop : tie.invariant-loop-col
 invariant-loop s₀ m₀ p starts calls₀ col₀ s m calls col =
     (left : ℕ) × Done (λ (x : (r : Rows) × (starts ≡ starts_of p.columns r)). lane_column (settings p) x.0) p.columns s₀ m₀ s m calls col left
 
-abbrev decreases-loop : tie.decreases-loop
+abbrev decreases-loop : tie.decreases-loop-col
 decreases-loop s₀ m₀ p starts calls₀ col₀ s m calls col = p.columns - col
 
-lane-column-requires : tie.Need-lane-column-requires invariant-loop decreases-loop
-lane-column-requires c κs =
-    let d = c.before.before.before.before.loop.invariant.1 in
-    (omega arith, rw (c.before.before.before.before.before.of.ensures, d.same) c.before.before.before.before.before.before.before.requires)
+lane_column-requires : tie.Need-lane_column-requires invariant-loop decreases-loop
+lane_column-requires c κs =
+    let d = c.before.before.before.before.loop-col.invariant.1 in
+    (omega arith, rw (c.before.before.before.before.before.of-starts.ensures, d.same) c.before.before.before.before.before.before.before.requires)
 
-pub visit-row-spec : {M : Type 1} → statement M
+pub visit_row_spec : {M : Type 1} → statement M
 unfolding visited_row
-visit-row-spec =
+visit_row_spec =
     tie.close
-    (tie.spec invariant-loop decreases-loop (omega arith) (λ c. (_, done_none _ _ _ _)) lane-column-requires (omega arith) (omega arith) (omega arith)
-    (λ c. (_, done_again _ c.before.before.before.before.before.before.before.loop.invariant.1 (omega arith) (search) (λ x. c.before.before.lane-column.ensures x.0 x.1)))
-    (λ c. c.before.before.loop.invariant.1.same) (λ c. done_end _ c.before.before.loop.invariant.1 (omega arith) (_, c.before.before.before.of.ensures)))
+    (tie.spec invariant-loop decreases-loop (omega arith) (λ c. (_, done_none _ _ _ _)) lane_column-requires (omega arith) (omega arith) (omega arith)
+    (λ c. (_, done_again _ c.before.before.before.before.before.before.before.loop-col.invariant.1 (omega arith) (search) (λ x. c.before.before.lane_column.ensures x.0 x.1)))
+    (λ c. c.before.before.loop-col.invariant.1.same) (λ c. done_end _ c.before.before.loop-col.invariant.1 (omega arith) (_, c.before.before.before.of-starts.ensures)))

@@ -23,21 +23,21 @@ number l p time =
     cond (refuses (key_check l.key)) 1 (cond (refuses (password_check l.password)) 2 (cond (refuses (short_salt_check l.salt)) 3 (cond (refuses (long_salt_check l.salt)) 10
     (cond time 4 (first (rows_check p.rows ∷ columns_check p.columns ∷ []))))))
 
-returns : tie.Need-returns
+returns : tie.Need-returns-then-number-ne0
 unfolding lanes_cost_checks cost_checks first
 returns c =
     let a = c.before.before.before.before.args in
-    let is = c.before.cost-refusal.ensures ∙ ap (λ (q : Parameters). first (cost_checks a.l q)) c.before.before.usual.ensures ∙ ap (number a.l a.p) c.before.before.before.visits-time.ensures in
-    more_refuse (others a.l a.p) (lanes_check a.p.rows a.lanes ∷ []) is c.if1.true
+    let is = c.before.cost_refusal-number.ensures ∙ ap (λ (q : Parameters). first (cost_checks a.l q)) c.before.before.usual.ensures ∙ ap (number a.l a.p) c.before.before.before.visits_time.ensures in
+    more_refuse (others a.l a.p) (lanes_check a.p.rows a.lanes ∷ []) is c.if-number-ne0.true
 
-returns-2 : tie.Need-returns-2
+returns-2 : tie.Need-returns
 unfolding lanes_cost_checks cost_checks first
 returns-2 c =
     let a = c.before.before.before.before.before.before.args in
-    let is = c.before.before.before.cost-refusal.ensures ∙ ap (λ (q : Parameters). first (cost_checks a.l q)) c.before.before.before.before.usual.ensures ∙ ap (number a.l a.p) c.before.before.before.before.before.visits-time.ensures in
-    more_pass (others a.l a.p) (lanes_check a.p.rows a.lanes ∷ []) is (omega arith) c.before.before.if1.false
+    let is = c.before.before.before.cost_refusal-number.ensures ∙ ap (λ (q : Parameters). first (cost_checks a.l q)) c.before.before.before.before.usual.ensures ∙ ap (number a.l a.p) c.before.before.before.before.before.visits_time.ensures in
+    more_pass (others a.l a.p) (lanes_check a.p.rows a.lanes ∷ []) is (omega arith) c.before.before.if-number-ne0.false
     (first_of_is (lanes_check a.p.rows a.lanes) [] c.before.uneven.ensures c.first_of.ensures first_none)
 
-pub lanes-refusal-spec : {M : Type 1} → statement M
-lanes-refusal-spec =
+pub lanes_refusal_spec : {M : Type 1} → statement M
+lanes_refusal_spec =
     tie.close (tie.spec (λ c κs. tt) (λ c κs. tt) (λ c κs. tt) returns (λ c κs. tt) (λ c κs. tt) returns-2)

@@ -20,26 +20,26 @@ cells l p lanes e =
     let bounds = accepted (lanes_cost_checks l p lanes) (omega arith) e in
     cells_most p.rows p.columns (omega arith) (omega arith)
 
-returns : tie.Need-returns
+returns : tie.Need-returns-then-number-ne0
 unfolding lanes_checks
 returns c =
     let a = c.before.before.args in
-    more_refuse (lanes_cost_checks a.l a.p a.lanes) (matrix_check (usual a.p) a.matrix ∷ []) c.before.lanes-refusal.ensures c.if1.true
+    more_refuse (lanes_cost_checks a.l a.p a.lanes) (matrix_check (usual a.p) a.matrix ∷ []) c.before.lanes_refusal-number.ensures c.if-number-ne0.true
 
-matrix-words-requires : tie.Need-matrix-words-requires
-matrix-words-requires c κs =
+matrix_words-requires : tie.Need-matrix_words-requires
+matrix_words-requires c κs =
     let a = c.before.before.before.args in
-    rw c.usual.ensures (omega (arith, cells a.l a.p a.lanes (sym c.before.before.lanes-refusal.ensures ∙ c.before.if1.false)))
+    rw c.usual.ensures (omega (arith, cells a.l a.p a.lanes (sym c.before.before.lanes_refusal-number.ensures ∙ c.before.if-number-ne0.false)))
 
-returns-2 : tie.Need-returns-2
+returns-2 : tie.Need-returns
 unfolding lanes_checks lanes_cost_checks
 returns-2 c =
     let a = c.before.before.before.before.before.before.args in
-    let words = c.before.before.matrix-words.ensures ∙ ap (λ (q : Parameters). matrix_words (settings q)) c.before.before.before.usual.ensures in
+    let words = c.before.before.matrix_words.ensures ∙ ap (λ (q : Parameters). matrix_words (settings q)) c.before.before.before.usual.ensures in
     let short = c.before.below.ensures ∙ ap (λ (n : ℕ). broken (n ≤? a.matrix ∷ [])) words in
-    more_pass (lanes_cost_checks a.l a.p a.lanes) (matrix_check (usual a.p) a.matrix ∷ []) c.before.before.before.before.before.lanes-refusal.ensures (omega arith) c.before.before.before.before.if1.false
+    more_pass (lanes_cost_checks a.l a.p a.lanes) (matrix_check (usual a.p) a.matrix ∷ []) c.before.before.before.before.before.lanes_refusal-number.ensures (omega arith) c.before.before.before.before.if-number-ne0.false
     (first_of_is (matrix_check (usual a.p) _) _ short c.first_of.ensures first_none)
 
-pub lanes-room-refusal-spec : {M : Type 1} → statement M
-lanes-room-refusal-spec =
-    tie.close (tie.spec (λ c κs. tt) returns (λ c κs. tt) matrix-words-requires (λ c κs. tt) (λ c κs. tt) returns-2)
+pub lanes_room_refusal_spec : {M : Type 1} → statement M
+lanes_room_refusal_spec =
+    tie.close (tie.spec (λ c κs. tt) returns (λ c κs. tt) matrix_words-requires (λ c κs. tt) (λ c κs. tt) returns-2)

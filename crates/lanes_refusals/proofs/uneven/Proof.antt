@@ -7,25 +7,25 @@ use Rattle.lanes_refusals.proofs.Bounds.{lanes_out, halves_apart, rows_odd, rows
 use Rattle.lanes_refusals.proofs.uneven.Statement.{statement}
 use Rattle.lanes_refusals.proofs.uneven.Tie as tie
 
-returns : tie.Need-returns
-returns c = sym (lanes_out c.before.before.args.rows c.before.before.args.lanes (sym c.before.outside.ensures ∙ c.if1.true))
+returns : tie.Need-returns-then-outside
+returns c = sym (lanes_out c.before.before.args.rows c.before.before.args.lanes (sym c.before.outside.ensures ∙ c.if-outside.true))
 
-rem-if2 : tie.Need-nonzero-rem-if2
-rem-if2 c = omega (arith, kept (between 1 8 c.before.before.args.lanes) (sym c.before.outside.ensures ∙ c.if1.false))
+rem-if2 : tie.Need-nonzero_rem-rows
+rem-if2 c = omega (arith, kept (between 1 8 c.before.before.args.lanes) (sym c.before.outside.ensures ∙ c.if-outside.false))
 
-returns-2 : tie.Need-returns-2
-returns-2 c = sym (halves_apart _ _ (sym c.before.before.outside.ensures ∙ c.before.if1.false) c.if2.true)
+returns-2 : tie.Need-returns-then-rows-lanes-gt0
+returns-2 c = sym (halves_apart _ _ (sym c.before.before.outside.ensures ∙ c.before.if-outside.false) c.if-rows-lanes-gt0.true)
 
-returns-3 : tie.Need-returns-3
-returns-3 c = sym (rows_odd _ _ (sym c.before.before.before.outside.ensures ∙ c.before.before.if1.false) c.before.if2.false c.if3.true)
+returns-3 : tie.Need-returns-then-rows-gt0
+returns-3 c = sym (rows_odd _ _ (sym c.before.before.before.outside.ensures ∙ c.before.before.if-outside.false) c.before.if-rows-lanes-gt0.false c.if-rows-gt0.true)
 
-div_below : tie.Need-nonzero-div-below
-div_below c = omega (arith, kept (between 1 8 c.before.before.before.before.args.lanes) (sym c.before.before.before.outside.ensures ∙ c.before.before.if1.false))
+div_below : tie.Need-nonzero_div-rows-2
+div_below c = omega (arith, kept (between 1 8 c.before.before.before.before.args.lanes) (sym c.before.before.before.outside.ensures ∙ c.before.before.if-outside.false))
 
-returns-4 : tie.Need-returns-4
-returns-4 c = c.below.ensures ∙ sym (rows_few _ _ (sym c.before.before.before.before.outside.ensures ∙ c.before.before.before.if1.false) c.before.before.if2.false c.before.if3.false)
+returns-4 : tie.Need-returns
+returns-4 c = c.below.ensures ∙ sym (rows_few _ _ (sym c.before.before.before.before.outside.ensures ∙ c.before.before.before.if-outside.false) c.before.before.if-rows-lanes-gt0.false c.before.if-rows-gt0.false)
 
-pub uneven-spec : {M : Type 1} → statement M
-uneven-spec =
+pub uneven_spec : {M : Type 1} → statement M
+uneven_spec =
     tie.close
     (tie.spec (λ c κs. tt) returns rem-if2 returns-2 returns-3 div_below (λ c κs. tt) returns-4)

@@ -7,10 +7,10 @@ use borrow.Author.Tests.{le-ltb}
 use Rattle.lanes_refusals.proofs.visits_time.Statement.{statement}
 use Rattle.lanes_refusals.proofs.visits_time.Tie as tie
 
-returns-2 : tie.Need-returns-2
+returns-2 : tie.Need-returns-else-time-eq0
 returns-2 c =
     let time = c.before.args.time in
-    ap (λ (b : Bool). b || (ltb 255 time || false)) (le-ltb time 0 (omega arith) ∙ sym (le-ltb time 1 (omega (arith, c.if1.false))))
+    ap (λ (b : Bool). b || (ltb 255 time || false)) (le-ltb time 0 (omega arith) ∙ sym (le-ltb time 1 (omega (arith, c.if-time-eq0.false))))
 
-pub visits-time-spec : {M : Type 1} → statement M
-visits-time-spec = tie.close (tie.spec (omega arith) (λ c. rw c.if1.true refl) returns-2)
+pub visits_time_spec : {M : Type 1} → statement M
+visits_time_spec = tie.close (tie.spec (omega arith) (λ c. rw c.if-time-eq0.true refl) returns-2)

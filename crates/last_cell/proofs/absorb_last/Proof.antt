@@ -14,8 +14,8 @@ returns : tie.Need-returns
 returns c =
     let a = c.before.before.before.before.before.args in
     let at = start-place a.p.columns a.row0.0 _ c.before.before.of.ensures 0 in
-    c.absorb-cell.ensures ∙ (λ i. absorb (sum_of a.p.mixer) full_rounds ((c.before.cell.ensures.0 ∙ ap (λ (n : ℕ). cell_from n a.m.now) at) i) a.s.now)
+    c.absorb_cell.ensures ∙ (λ i. absorb (sum_of a.p.mixer) full_rounds ((c.before.cell.ensures.0 ∙ ap (λ (n : ℕ). cell_from n a.m.now) at) i) a.s.now)
 
-pub absorb-last-spec : {M : Type 1} → statement M
-absorb-last-spec =
+pub absorb_last_spec : {M : Type 1} → statement M
+absorb_last_spec =
     tie.close (tie.spec (omega arith) (omega arith) (omega arith) returns)

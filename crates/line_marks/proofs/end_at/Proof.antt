@@ -6,10 +6,10 @@ use Rattle.line_marks.proofs.Marks.{Sought, sought_none, sought_found, sought_mo
 use Rattle.line_marks.proofs.end_at.Statement.{statement}
 use Rattle.line_marks.proofs.end_at.Tie as tie
 
-pub end-at-spec : {M : Type 1} → statement M
-end-at-spec =
+pub end_at_spec : {M : Type 1} → statement M
+end_at_spec =
     tie.close
     (tie.spec (λ line at byte i₀ i. Sought byte line at i) (λ line at byte i₀ i. length line - i) (λ c. sought_none (omega arith)) (omega arith)
-    (λ c. (sought_found c.before.before.before.loop.invariant (omega arith) (omega arith), omega arith)) (omega arith) (omega arith)
-    (λ c. sought_more c.before.before.before.loop.invariant (omega arith) (λ e. omega arith))
-    (λ c. (sought_end c.before.loop.invariant (omega arith), omega arith)))
+    (λ c. (sought_found c.before.before.before.loop-i.invariant (omega arith) (omega arith), omega arith)) (omega arith) (omega arith)
+    (λ c. sought_more c.before.before.before.loop-i.invariant (omega arith) (λ e. omega arith))
+    (λ c. (sought_end c.before.loop-i.invariant (omega arith), omega arith)))

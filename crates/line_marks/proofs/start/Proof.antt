@@ -9,7 +9,7 @@ use Rattle.line_marks.proofs.start.Tie as tie
 pub start_spec : {M : Type 1} → statement M
 start_spec =
     tie.close
-    (tie.spec (omega arith) (omega arith)
+    (tie.spec (omega arith)
     (λ c.
-    let told = c.stands_at.ensures in
+    let told = c.stands_at-marked.ensures in
     (told, refl, λ h. stands_fits c.before.before.before.args.line.now 0 start_mark (omega arith) (sym told ∙ h))))

@@ -18,18 +18,18 @@ returns c =
     let rows = columns.before.before in
     let time = rows.before.before in
     let m = time.before.before.requires in
-    let t = time.is-number-at.ensures ∙ ap is_number (time_part m) in
-    let r = rows.is-number-at2.ensures ∙ ap is_number (rows_part m) in
-    let n = columns.is-number-at3.ensures ∙ ap is_number (columns_part m) in
-    let s = salt.is-text-at.ensures ∙ ap is_text (salt_part m) in
-    let k = last.is-text-at2.ensures ∙ ap is_text (key_part m) in
+    let t = time.is_number_at-time.ensures ∙ ap is_number (time_part m) in
+    let r = rows.is_number_at-rows.ensures ∙ ap is_number (rows_part m) in
+    let n = columns.is_number_at-columns.ensures ∙ ap is_number (columns_part m) in
+    let s = salt.is_text_at-salt.ensures ∙ ap is_text (salt_part m) in
+    let k = last.is_text_at-key.ensures ∙ ap is_text (key_part m) in
     let rows-too = c.before.before.before.both.ensures ∙ (λ i. t i && r i) in
-    let columns-too = c.before.before.both2.ensures ∙ (λ i. rows-too i && n i) in
-    let salt-too = c.before.both3.ensures ∙ (λ i. columns-too i && s i) in
-    c.both4.ensures ∙ (λ i. salt-too i && k i)
+    let columns-too = c.before.before.both-2.ensures ∙ (λ i. rows-too i && n i) in
+    let salt-too = c.before.both-3.ensures ∙ (λ i. columns-too i && s i) in
+    c.both-4.ensures ∙ (λ i. salt-too i && k i)
 
-pub are-texts-spec : {M : Type 1} → statement M
-are-texts-spec =
+pub are_texts_spec : {M : Type 1} → statement M
+are_texts_spec =
     tie.close
     (tie.spec (omega arith) (omega arith) (omega arith) (omega arith) (omega arith) (omega arith) (omega arith) (omega arith) (omega arith) (λ c κs. tt)
     (λ c κs. tt) (λ c κs. tt) (λ c κs. tt) returns)

@@ -4,8 +4,8 @@ use mathlib.Core.Bool.{Bool, ◌&&◌}
 use Rattle.line_texts.proofs.both.Statement.{statement}
 use Rattle.line_texts.proofs.both.Tie as tie
 
-pub both-spec : {M : Type 1} → statement M
-both-spec =
+pub both_spec : {M : Type 1} → statement M
+both_spec =
     tie.close
-    (tie.spec (λ c. sym (ap (λ (t : Bool). t && c.before.args.b) c.if1.true))
-    (λ c. sym (ap (λ (t : Bool). t && c.before.args.b) c.if1.false)))
+    (tie.spec (λ c. sym (ap (λ (t : Bool). t && c.before.args.b) c.if-a.true))
+    (λ c. sym (ap (λ (t : Bool). t && c.before.args.b) c.if-a.false)))

@@ -4,6 +4,6 @@ use Rattle.line_form.specs.Promises.{no_values}
 use Rattle.line_texts.proofs.no_values.Statement.{statement}
 use Rattle.line_texts.proofs.no_values.Tie as tie
 
-pub no-values-spec : {M : Type 1} → statement M
+pub no_values_spec : {M : Type 1} → statement M
 unfolding no_values
-no-values-spec = tie.close (tie.spec (λ c. refl))
+no_values_spec = tie.close (tie.spec (λ c. refl))

@@ -21,15 +21,15 @@ returns c =
     let rows = columns.before.before in
     let time = rows.before.before in
     let m = time.before.before.requires in
-    let time_is = time.number-at.ensures ∙ ap kept (time_part m) in
-    let rows_is = rows.number-at2.ensures ∙ ap kept (rows_part m) in
-    let columns_is = columns.number-at3.ensures ∙ ap kept (columns_part m) in
-    let salt_is = c.before.before.decoded-length.ensures ∙ sym (salt_length_lem m) in
-    let key_is = c.decoded-length2.ensures ∙ sym (key_length_lem m) in
+    let time_is = time.number_at-time.ensures ∙ ap kept (time_part m) in
+    let rows_is = rows.number_at-rows.ensures ∙ ap kept (rows_part m) in
+    let columns_is = columns.number_at-columns.ensures ∙ ap kept (columns_part m) in
+    let salt_is = c.before.before.decoded_length.ensures ∙ sym (salt_length_lem m) in
+    let key_is = c.decoded_length-2.ensures ∙ sym (key_length_lem m) in
     λ i. record { refusal = 0; time = time_is i; rows = rows_is i; columns = columns_is i; salt = salt_is i; key = key_is i }
 
-pub values-at-spec : {M : Type 1} → statement M
-values-at-spec =
+pub values_at_spec : {M : Type 1} → statement M
+values_at_spec =
     tie.close
     (tie.spec (omega arith) (omega arith) (omega arith) (omega arith) (omega arith) (omega arith) (omega arith) (λ c κs. tt) (omega arith) (omega arith)
     (λ c κs. tt) returns)

@@ -4,8 +4,8 @@ use Rattle.text.proofs.Appending.{◌then◌}
 use Rattle.line_writing.proofs.append_number.Statement.{statement}
 use Rattle.line_writing.proofs.append_number.Tie as tie
 
-pub append-number-spec : {M : Type 1} → statement M
-append-number-spec =
+pub append_number_spec : {M : Type 1} → statement M
+append_number_spec =
     tie.close
     (tie.spec (omega arith) (omega arith) (omega arith)
-    (λ c. c.before.before.before.before.before.before.append.ensures then c.before.before.append-decimal.ensures))
+    (λ c. c.before.before.before.before.before.before.append-from.ensures then c.before.before.append_decimal.ensures))

@@ -4,8 +4,8 @@ use Rattle.text.proofs.Appending.{◌then◌}
 use Rattle.line_writing.proofs.append_text.Statement.{statement}
 use Rattle.line_writing.proofs.append_text.Tie as tie
 
-pub append-text-spec : {M : Type 1} → statement M
-append-text-spec =
+pub append_text_spec : {M : Type 1} → statement M
+append_text_spec =
     tie.close
-    (tie.spec (omega arith) (omega arith) (omega arith) (omega arith)
-    (λ c. c.before.before.before.before.before.before.append.ensures then c.before.before.append-encoded.ensures))
+    (tie.spec (omega arith) (omega arith) (omega arith)
+    (λ c. c.before.before.before.before.before.before.append-from.ensures then c.before.before.append_encoded.ensures))

@@ -4,9 +4,9 @@ use Rattle.line_form.specs.Line.{length_by}
 use Rattle.line_writing.proofs.line_length.Statement.{statement}
 use Rattle.line_writing.proofs.line_length.Tie as tie
 
-pub line-length-spec : {M : Type 1} → statement M
+pub line_length_spec : {M : Type 1} → statement M
 unfolding length_by
-line-length-spec =
+line_length_spec =
     tie.close
     (tie.spec (omega arith) (omega arith) (omega arith) (omega arith) (omega arith) (omega arith) (omega arith) (omega arith) (omega arith) (omega arith)
     (omega arith))

@@ -4,6 +4,6 @@ use Rattle.line_form.specs.Promises.{no_length}
 use Rattle.line_writing.proofs.no_length.Statement.{statement}
 use Rattle.line_writing.proofs.no_length.Tie as tie
 
-pub no-length-spec : {M : Type 1} → statement M
+pub no_length_spec : {M : Type 1} → statement M
 unfolding no_length
-no-length-spec = tie.close (tie.spec (λ c. refl))
+no_length_spec = tie.close (tie.spec (λ c. refl))

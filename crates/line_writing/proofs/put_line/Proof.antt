@@ -8,11 +8,11 @@ use Rattle.line_writing.proofs.WriteLaws.{regrouped}
 use Rattle.line_writing.proofs.put_line.Statement.{statement}
 use Rattle.line_writing.proofs.put_line.Tie as tie
 
-pub put-line-spec : {M : Type 1} → statement M
+pub put_line_spec : {M : Type 1} → statement M
 unfolding length_by
-put-line-spec =
+put_line_spec =
     tie.close
-    (tie.spec (omega arith) (omega arith) (omega arith) (omega arith) (omega arith) (omega arith) (omega arith)
+    (tie.spec (omega arith) (omega arith) (omega arith) (omega arith)
     (λ c κs.
     let salt = c.before.before.before in
     let columns = salt.before.before.before.before in
@@ -23,14 +23,14 @@ put-line-spec =
       arith,
       length-encode start.args.salt.now,
       start.requires,
-      time.append-number.ensures.next_is,
-      rows.append-number2.ensures.next_is,
-      columns.append-number3.ensures.next_is,
-      salt.append-text.ensures.next_is,
-      salt.append-text.ensures.same_length,
-      columns.append-number3.ensures.same_length,
-      rows.append-number2.ensures.same_length,
-      time.append-number.ensures.same_length,
+      time.append_number-time.ensures.next_is,
+      rows.append_number-rows.ensures.next_is,
+      columns.append_number-columns.ensures.next_is,
+      salt.append_text-end.ensures.next_is,
+      salt.append_text-end.ensures.same_length,
+      columns.append_number-columns.ensures.same_length,
+      rows.append_number-rows.ensures.same_length,
+      time.append_number-time.ensures.same_length,
     ))
     (omega arith)
     (λ c.
@@ -40,6 +40,6 @@ put-line-spec =
     let time = rows.before.before.before.before.before in
     let a = time.before.before.before.before.before.before.args in
     reworded
-    (time.append-number.ensures then rows.append-number2.ensures then columns.append-number3.ensures then salt.append-text.ensures
-    then c.before.before.append-text2.ensures)
+    (time.append_number-time.ensures then rows.append_number-rows.ensures then columns.append_number-columns.ensures then salt.append_text-end.ensures
+    then c.before.before.append_text.ensures)
     (regrouped (values a.p a.salt.now a.key.now))))

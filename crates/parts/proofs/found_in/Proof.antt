@@ -6,13 +6,13 @@ use Rattle.parts.specs.Parts.{found_in}
 use Rattle.parts.proofs.found_in.Statement.{statement}
 use Rattle.parts.proofs.found_in.Tie as tie
 
-returns : tie.Need-returns
+returns : tie.Need-returns-then-lent-eq0
 unfolding found_in
-returns c = sym (ap (λ (b : Bool). cond b c.before.args.own.now c.before.args.lent.now) (eq-eqb _ _ c.if1.true))
+returns c = sym (ap (λ (b : Bool). cond b c.before.args.own.now c.before.args.lent.now) (eq-eqb _ _ c.if-lent-eq0.true))
 
-returns-2 : tie.Need-returns-2
+returns-2 : tie.Need-returns
 unfolding found_in
-returns-2 c = sym (ap (λ (b : Bool). cond b c.before.args.own.now c.before.args.lent.now) (ne_eqb _ _ c.if1.false))
+returns-2 c = sym (ap (λ (b : Bool). cond b c.before.args.own.now c.before.args.lent.now) (ne_eqb _ _ c.if-lent-eq0.false))
 
-pub found-in-spec : {M : Type 1} → statement M
-found-in-spec = tie.close (tie.spec returns returns-2)
+pub found_in_spec : {M : Type 1} → statement M
+found_in_spec = tie.close (tie.spec returns returns-2)

@@ -5,6 +5,6 @@ use native.Mathlib.Nat.{mod-lt}
 use Rattle.picks.proofs.picked.Statement.{statement}
 use Rattle.picks.proofs.picked.Tie as tie
 
-pub picked-spec : {M : Type 1} → statement M
-picked-spec =
+pub picked_spec : {M : Type 1} → statement M
+picked_spec =
     tie.close (tie.spec (omega arith) (λ c. (refl, mod-lt _ c.requires)))

@@ -22,8 +22,8 @@ some-power (inr (inr (inl e))) = (6, e)
 some-power (inr (inr (inr (inl e)))) = (7, e)
 some-power (inr (inr (inr (inr e)))) = (8, e)
 
-pub picked-column-spec : {M : Type 1} → statement M
-picked-column-spec =
+pub picked_column_spec : {M : Type 1} → statement M
+picked_column_spec =
     tie.close
     (tie.spec (omega arith) (omega arith)
-    (λ c. let which = some-power c.before.match.keys1 in power which.0 _ which.1 c.before.before.requires c.masked.ensures) (omega arith))
+    (λ c. let which = some-power c.before.in-16.is in power which.0 _ which.1 c.before.before.requires c.masked.ensures) (omega arith))

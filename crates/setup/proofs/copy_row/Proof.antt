@@ -10,22 +10,22 @@ use Rattle.setup.specs.Setup.{copy_row}
 use Rattle.setup.proofs.copy_row.Statement.{statement}
 use Rattle.setup.proofs.copy_row.Tie as tie
 
-abbrev invariant-loop : tie.invariant-loop
+abbrev invariant-loop : tie.invariant-loop-col
 invariant-loop s₀ m₀ p from to calls₀ col₀ mirror₀ s m calls col mirror =
     Done (λ (x : (q : ℕ) × (r : ℕ) × (first_word from ≡ row_start p.columns q) × (first_word to ≡ row_start p.columns r)). copy_column (settings p) x.0 x.1) p.columns s₀ m₀ s m calls col mirror
 
-abbrev decreases-loop : tie.decreases-loop
+abbrev decreases-loop : tie.decreases-loop-col
 decreases-loop s₀ m₀ p from to calls₀ col₀ mirror₀ s m calls col mirror = p.columns - col
 
-copy-column-requires : tie.Need-copy-column-requires invariant-loop decreases-loop
-copy-column-requires c κs =
-    let d = c.before.before.before.before.loop.invariant in
-    omega (arith, d.left, d.same, c.before.before.before.before.before.before.of.ensures, c.before.before.before.before.before.of2.ensures)
+copy_column-requires : tie.Need-copy_column-requires invariant-loop decreases-loop
+copy_column-requires c κs =
+    let d = c.before.before.before.before.loop-col.invariant in
+    omega (arith, d.left, d.same, c.before.before.before.before.before.before.of-from.ensures, c.before.before.before.before.before.of-to.ensures)
 
-pub copy-row-spec : {M : Type 1} → statement M
+pub copy_row_spec : {M : Type 1} → statement M
 unfolding copy_row
-copy-row-spec =
+copy_row_spec =
     tie.close
-    (tie.spec invariant-loop decreases-loop (omega arith) (omega arith) (λ c. done_none _ _ _ _) (omega arith) copy-column-requires (omega arith) (omega arith) (omega arith)
-    (λ c. done_again _ c.before.before.before.before.before.before.before.loop.invariant (omega arith) (search) (λ x. c.before.before.copy-column.ensures x.0 x.2 x.1 x.3))
-    (λ c. c.before.before.loop.invariant.same) (λ c. done_end _ c.before.before.loop.invariant (omega arith) (_, _, c.before.before.before.before.of.ensures, c.before.before.before.of2.ensures)))
+    (tie.spec invariant-loop decreases-loop (omega arith) (omega arith) (λ c. done_none _ _ _ _) (omega arith) copy_column-requires (omega arith) (omega arith) (omega arith)
+    (λ c. done_again _ c.before.before.before.before.before.before.before.loop-col.invariant (omega arith) (search) (λ x. c.before.before.copy_column.ensures x.0 x.2 x.1 x.3))
+    (λ c. c.before.before.loop-col.invariant.same) (λ c. done_end _ c.before.before.loop-col.invariant (omega arith) (_, _, c.before.before.before.before.of-from.ensures, c.before.before.before.of-to.ensures)))

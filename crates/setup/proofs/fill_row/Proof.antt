@@ -11,27 +11,27 @@ use Rattle.setup.specs.Setup.{fill_row}
 use Rattle.setup.proofs.fill_row.Statement.{statement}
 use Rattle.setup.proofs.fill_row.Tie as tie
 
-abbrev invariant-loop : tie.invariant-loop
+abbrev invariant-loop : tie.invariant-loop-col
 invariant-loop s₀ m₀ p to calls₀ col₀ mirror₀ s m calls col mirror =
     Done (λ (x : (row : ℕ) × (first_word to ≡ row_start p.columns row)). fill_column (settings p) x.0) p.columns s₀ m₀ s m calls col mirror
 
-abbrev decreases-loop : tie.decreases-loop
+abbrev decreases-loop : tie.decreases-loop-col
 decreases-loop s₀ m₀ p to calls₀ col₀ mirror₀ s m calls col mirror = p.columns - col
 
-fill-column-requires : tie.Need-fill-column-requires invariant-loop decreases-loop
-fill-column-requires c κs =
-    omega (arith, c.before.before.before.before.loop.invariant.left, c.before.before.before.before.loop.invariant.same, c.before.before.before.before.before.of.ensures)
+fill_column-requires : tie.Need-fill_column-requires invariant-loop decreases-loop
+fill_column-requires c κs =
+    omega (arith, c.before.before.before.before.loop-col.invariant.left, c.before.before.before.before.loop-col.invariant.same, c.before.before.before.before.before.of-to.ensures)
 
-loop-again : tie.Need-loop-preserved invariant-loop decreases-loop
+loop-again : tie.Need-loop-col-preserved invariant-loop decreases-loop
 loop-again c =
-    let v = c.before.before.before.before.before.before.before.loop in
-    let filled = c.before.before.fill-column.ensures in
+    let v = c.before.before.before.before.before.before.before.loop-col in
+    let filled = c.before.before.fill_column.ensures in
     done_again _ v.invariant (omega arith) (search)
     (λ x. fill_column_done (settings c.before.before.before.before.before.before.before.before.before.before.args.p) x.0 v.col _ _ _ _ _ _ x.1 (omega (arith, v.invariant.left)) filled.0 filled.1)
 
-pub fill-row-spec : {M : Type 1} → statement M
+pub fill_row_spec : {M : Type 1} → statement M
 unfolding fill_row
-fill-row-spec =
+fill_row_spec =
     tie.close
-    (tie.spec invariant-loop decreases-loop (omega arith) (λ c. done_none _ _ _ _) (omega arith) fill-column-requires (omega arith) (omega arith) (omega arith)
-    loop-again (λ c. c.before.before.loop.invariant.same) (λ c. done_end _ c.before.before.loop.invariant (omega arith) (_, c.before.before.before.of.ensures)))
+    (tie.spec invariant-loop decreases-loop (omega arith) (λ c. done_none _ _ _ _) (omega arith) fill_column-requires (omega arith) (omega arith) (omega arith)
+    loop-again (λ c. c.before.before.loop-col.invariant.same) (λ c. done_end _ c.before.before.loop-col.invariant (omega arith) (_, c.before.before.before.of-to.ensures)))

@@ -19,10 +19,10 @@ returns c r e =
     let C = a.p.columns in
     let from : ℕ → List ℕ = λ n. cell_from n a.m.now in
     let row1 = c.before.before.before.cell.ensures.0 ∙ ap from (row1_place C r e a.col.0) in
-    let prev0 = c.before.before.cell2.ensures.0 ∙ ap from (prev0_place C r e a.col.0) in
-    let prev1 = c.before.cell3.ensures.0 ∙ ap from (prev1_place C r e a.col.0) in
-    c.duplex-sum3.ensures ∙ (λ i. absorb (sum_of a.p.mixer) a.p.rounds (cell_sum (cell_sum (row1 i) (prev0 i)) (prev1 i)) a.s.now)
+    let prev0 = c.before.before.cell-2.ensures.0 ∙ ap from (prev0_place C r e a.col.0) in
+    let prev1 = c.before.cell-3.ensures.0 ∙ ap from (prev1_place C r e a.col.0) in
+    c.duplex_sum3.ensures ∙ (λ i. absorb (sum_of a.p.mixer) a.p.rounds (cell_sum (cell_sum (row1 i) (prev0 i)) (prev1 i)) a.s.now)
 
-pub duplex-setup-spec : {M : Type 1} → statement M
-duplex-setup-spec =
+pub duplex_setup_spec : {M : Type 1} → statement M
+duplex_setup_spec =
     tie.close (tie.spec (omega arith) (omega arith) (omega arith) (omega arith) returns)

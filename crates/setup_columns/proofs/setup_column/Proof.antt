@@ -6,8 +6,8 @@ use Rattle.setup_columns.proofs.setup_column.Tie as tie
 
 returns : tie.Need-returns
 unfolding setup_column
-returns c r e = cc (c.before.before.write-setup.ensures r e, c.before.before.before.before.before.duplex-setup.ensures r e)
+returns c r e = cc (c.write_setup.ensures r e, c.duplex_setup.ensures r e)
 
-pub setup-column-spec : {M : Type 1} → statement M
-setup-column-spec =
-    tie.close (tie.spec (omega arith) (λ c κs. (omega arith, omega arith, omega arith, c.before.before.before.before.before.before.requires.3)) (omega arith) returns)
+pub setup_column_spec : {M : Type 1} → statement M
+setup_column_spec =
+    tie.close (tie.spec (omega arith) (λ c κs. (omega arith, omega arith, omega arith, c.requires.3)) (omega arith) returns)

@@ -8,35 +8,35 @@ use Rattle.choice.proofs.BestLaws.{tried-cells_most, best_cells_most, best_none,
 use Rattle.shapes.proofs.best.Statement.{statement}
 use Rattle.shapes.proofs.best.Tie as tie
 
-abbrev invariant-loop : tie.invariant-loop
+abbrev invariant-loop : tie.invariant-loop-columns
 invariant-loop limit n best₀ columns₀ best columns = (columns ≤ n) × (best ≡ best_of limit columns)
 
-abbrev decreases-loop : tie.decreases-loop
+abbrev decreases-loop : tie.decreases-loop-columns
 decreases-loop limit n best₀ columns₀ best columns = n - columns
 
 abbrev shape : ℕ → ℕ → Shape
 shape rows columns = record { rows = rows; columns = columns }
 
-better-requires : tie.Need-better-requires invariant-loop decreases-loop
+better-requires : tie.Need-better-best-requires invariant-loop decreases-loop
 better-requires c κs =
     let limit = c.before.before.before.args.limit in
-    let columns = c.before.before.loop.columns in
-    let rows : _ ≡ rows_for limit (columns + 1) = c.rows-for.ensures in
+    let columns = c.before.before.loop-columns.columns in
+    let rows : _ ≡ rows_for limit (columns + 1) = c.rows_for.ensures in
     let tried = ap (λ (r : ℕ). r * (columns + 1)) rows in
-    let best = ap cells c.before.before.loop.invariant.1 in
+    let best = ap cells c.before.before.loop-columns.invariant.1 in
     (omega (arith, best, best_cells_most limit columns), omega (arith, tried, tried-cells_most limit (columns + 1) (omega arith)))
 
-loop-again : tie.Need-loop-preserved invariant-loop decreases-loop
+loop-again : tie.Need-loop-columns-preserved invariant-loop decreases-loop
 loop-again c =
     let limit = c.before.before.before.before.args.limit in
-    let at = c.before.before.before.loop in
-    let rows : _ ≡ rows_for limit (at.columns + 1) = c.before.rows-for.ensures in (
+    let at = c.before.before.before.loop-columns in
+    let rows : _ ≡ rows_for limit (at.columns + 1) = c.before.rows_for.ensures in (
       omega arith,
-      c.better.ensures ∙ (λ i. better (at.invariant.1 i) (shape (rows i) (at.columns + 1))) ∙ sym (best_more limit at.columns),
+      c.better-best.ensures ∙ (λ i. better (at.invariant.1 i) (shape (rows i) (at.columns + 1))) ∙ sym (best_more limit at.columns),
     )
 
-pub best-spec : {M : Type 1} → statement M
-best-spec =
+pub best_spec : {M : Type 1} → statement M
+best_spec =
     tie.close
     (tie.spec invariant-loop decreases-loop (λ c. (omega arith, sym (best_none _))) (omega arith) (omega arith) better-requires (omega arith) loop-again
-    (λ c. c.before.loop.invariant.1 ∙ ap (best_of _) (omega arith)))
+    (λ c. c.before.loop-columns.invariant.1 ∙ ap (best_of _) (omega arith)))

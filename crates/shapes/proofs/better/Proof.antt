@@ -5,9 +5,9 @@ use Rattle.choice.proofs.BestLaws.{better-first, better_second}
 use Rattle.shapes.proofs.better.Statement.{statement}
 use Rattle.shapes.proofs.better.Tie as tie
 
-pub better-spec : {M : Type 1} → statement M
-better-spec =
+pub better_spec : {M : Type 1} → statement M
+better_spec =
     tie.close
     (tie.spec (omega arith) (omega arith)
-    (λ c. sym (better_second c.before.before.before.args.a c.before.before.before.args.b c.if1.true))
-    (λ c. sym (better-first c.before.before.before.args.a c.before.before.before.args.b c.if1.false)))
+    (λ c. sym (better_second c.before.before.before.args.a c.before.before.before.args.b c.if-a-b.true))
+    (λ c. sym (better-first c.before.before.before.args.a c.before.before.before.args.b c.if-a-b.false)))

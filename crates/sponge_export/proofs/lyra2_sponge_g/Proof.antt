@@ -8,10 +8,10 @@ use Rattle.sponge_export.specs.Four.{four, words}
 use Rattle.sponge_export.proofs.lyra2_sponge_g.Statement.{statement}
 use Rattle.sponge_export.proofs.lyra2_sponge_g.Tie as tie
 
-pub lyra2-sponge-g-spec : {M : Type 1} → statement M
-lyra2-sponge-g-spec =
+pub lyra2_sponge_g_spec : {M : Type 1} → statement M
+lyra2_sponge_g_spec =
     tie.close
     (tie.spec (omega arith) (omega arith) (omega arith) (omega arith) (omega arith) (omega arith)
     (λ c.
     let first = c.before.before.before.before.before.before in
-    ap four (c.before.g.ensures ∙ ap (λ (x : Mixer). G (sum_of x) (words first.before.args.w.now)) first.of.ensures)))
+    ap four (c.before.g-mixed.ensures ∙ ap (λ (x : Mixer). G (sum_of x) (words first.before.args.w.now)) first.of.ensures)))

@@ -7,8 +7,8 @@ use Rattle.permutation.specs.Round.{rounds}
 use Rattle.sponge_export.proofs.lyra2_sponge_rounds.Statement.{statement}
 use Rattle.sponge_export.proofs.lyra2_sponge_rounds.Tie as tie
 
-pub lyra2-sponge-rounds-spec : {M : Type 1} → statement M
-lyra2-sponge-rounds-spec =
+pub lyra2_sponge_rounds_spec : {M : Type 1} → statement M
+lyra2_sponge_rounds_spec =
     tie.close
     (tie.spec (omega arith) (omega arith)
     (λ c.

@@ -16,7 +16,7 @@ use Rattle.columns.proofs.RowLaws.{row0_place, row1_place}
 use Rattle.visit_columns.proofs.write_visit.Statement.{statement}
 use Rattle.visit_columns.proofs.write_visit.Tie as tie
 
-returns : tie.Need-returns
+returns : tie.Need-returns-then-p-ne-USUAL_ROTATION
 unfolding visit_written
 returns c r e =
     let a = c.before.before.before.before.before.before.before.before.before.args in
@@ -24,26 +24,26 @@ returns c r e =
     let m = a.m.now in
     let out = rand a.s.now in
     let turned = rotated a.p.rotation out in
-    let at0 = c.before.before.before.before.before.before.before.cell-start.ensures ∙ row0_place C r e a.col.0 in
-    let at1 = c.before.before.before.before.before.before.cell-start2.ensures ∙ row1_place C r e a.col.0 in
-    c.before.before.write-rotated.ensures
+    let at0 = c.before.before.before.before.before.before.before.cell_start-a.ensures ∙ row0_place C r e a.col.0 in
+    let at1 = c.before.before.before.before.before.before.cell_start-b.ensures ∙ row1_place C r e a.col.0 in
+    c.before.before.write_rotated.ensures
     ∙ (λ i. zip_at bit_xor (at1 i) (zip_at (λ (x y : ℕ). y) (at0 i) m (xor_into (cell_from (at0 i) m) out)) turned)
     ∙ ap (λ (l : List ℕ). zip_at bit_xor (place C r.row1.0 a.col.0) l turned) (put-xored (place C r.row0.0 a.col.0) m out (length-rand a.s.now))
 
-returns-2 : tie.Need-returns-2
+returns-2 : tie.Need-returns
 unfolding visit_written
 returns-2 c r e =
     let a = c.before.before.before.before.before.before.before.before.before.before.before.before.before.before.before.before.args in
     let C = a.p.columns in
-    let at0 = c.before.before.before.before.before.before.before.before.before.before.before.before.before.before.cell-start.ensures ∙ row0_place C r e a.col.0 in
-    let at1 = c.before.before.before.before.before.before.before.before.before.before.before.before.before.cell-start2.ensures ∙ row1_place C r e a.col.0 in
-    let usual = sym c.before.before.before.before.before.before.before.before.before.before.before.if1.false in
-    let out = c.before.before.before.before.before.before.before.before.before.before.output.ensures in
-    let first = c.before.before.before.before.before.before.before.xor-cell.ensures ∙ (λ i. zip_at bit_xor (at0 i) a.m.now (out i)) in
-    c.before.before.xor-turned.ensures ∙ (λ i. zip_at bit_xor (at1 i) (first i) (rotated (usual i) (out i)))
+    let at0 = c.before.before.before.before.before.before.before.before.before.before.before.before.before.before.cell_start-a.ensures ∙ row0_place C r e a.col.0 in
+    let at1 = c.before.before.before.before.before.before.before.before.before.before.before.before.before.cell_start-b.ensures ∙ row1_place C r e a.col.0 in
+    let usual = sym c.before.before.before.before.before.before.before.before.before.before.before.if-p-ne-USUAL_ROTATION.false in
+    let out = c.before.before.before.before.before.before.before.before.before.before.output-rand.ensures in
+    let first = c.before.before.before.before.before.before.before.xor_cell.ensures ∙ (λ i. zip_at bit_xor (at0 i) a.m.now (out i)) in
+    c.before.before.xor_turned.ensures ∙ (λ i. zip_at bit_xor (at1 i) (first i) (rotated (usual i) (out i)))
 
-pub write-visit-spec : {M : Type 1} → statement M
-write-visit-spec =
+pub write_visit_spec : {M : Type 1} → statement M
+write_visit_spec =
     tie.close
     (tie.spec (omega arith) (omega arith) (λ c κs. (omega arith, inl refl)) (omega arith) returns (omega arith) (omega arith) (omega arith) (omega arith) (omega arith) (omega arith)
     returns-2)

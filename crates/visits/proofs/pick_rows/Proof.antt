@@ -14,12 +14,12 @@ returns c =
     let a = c.before.before.before.before.before.args in
     let ω = a.p.rotation in
     let row0 = c.before.before.before.picked.ensures in
-    let row1 = c.picked2.ensures in
+    let row1 = c.picked-2.ensures in
     let at0 : 0 ≡ 0 * ω % 12 = omega arith in
     let at1 : c.before.before.place_after.result ≡ 1 * ω % 12 = c.before.before.place_after.ensures.0 ∙ omega arith in
     let e0 = picked_by_lem (settings a.p) 0 a.p.rows a.s.now at0 row0.0 in
     let e1 = picked_by_lem (settings a.p) 1 a.p.rows a.s.now at1 row1.0 in
     (row0.1, row1.1, λ i. record { row0 = record { 0 = e0 i }; row1 = record { 0 = e1 i }; prev0 = a.prev0; prev1 = a.prev1 })
 
-pub pick-rows-spec : {M : Type 1} → statement M
-pick-rows-spec = tie.close (tie.spec (omega arith) (omega arith) (omega arith) (omega arith) (omega arith) (omega arith) returns)
+pub pick_rows_spec : {M : Type 1} → statement M
+pick_rows_spec = tie.close (tie.spec (omega arith) (omega arith) (omega arith) (omega arith) (omega arith) (omega arith) returns)

@@ -18,15 +18,15 @@ use Rattle.visits.proofs.visit.Tie as tie
 
 note-requires : tie.Need-note-requires
 note-requires c κs =
-    let r = c.before.pick-rows.ensures in
-    let most = c.before.before.before.before.before.requires.0.packable.rows_most in
+    let r = c.pick_rows-r.ensures in
+    let most = c.requires.0.packable.rows_most in
     (omega (arith, r.0), omega (arith, r.1))
 
-visit-row-requires : tie.Need-visit-row-requires
+visit_row-requires : tie.Need-visit_row-calls-requires
 unfolding picked_rows
-visit-row-requires c κs =
-    let start = c.before.before.before.before.before.before.before.before.before.before.before in
-    let r = c.before.before.before.before.before.before.before.pick-rows in (
+visit_row-requires c κs =
+    let start = c in
+    let r = c.pick_rows-r in (
       start.requires.0.packable,
       within start.args.p.rows start.args.p.columns (length start.args.m.now) start.requires.0.room r.result r.ensures.0 r.ensures.1
           (omega (arith, start.requires.0.prev0_lt, ap (λ (q : Rows). q.prev0.0) r.ensures.2)) (omega (arith, start.requires.0.prev1_lt, ap (λ (q : Rows). q.prev1.0) r.ensures.2)),
@@ -36,10 +36,10 @@ visit-row-requires c κs =
 returns : tie.Need-returns
 unfolding picked_rows
 returns c =
-    let start = c.before.before.before.before.before.before.before.before.before.before.before.before.before.before.before.before.before.before in
-    let r = c.before.before.before.before.before.before.before.before.before.before.before.before.before.before.pick-rows in
-    let row = c.before.before.before.before.before.before.visit-row in
-    let noted = c.before.before.before.before.before.before.before.before.before.before.before.before.note in
+    let start = c in
+    let r = c.pick_rows-r in
+    let row = c.visit_row-calls in
+    let noted = c.note in
     let w = walk (work start.args.s.now start.args.m.now) start.args.prev0.0 start.args.prev1.0 in
     let rows-noted : _ ≡ set start.args.«record».now start.args.at (packed r.result.row0.0 r.result.row1.0) = noted.ensures in
     record {
@@ -51,7 +51,7 @@ returns c =
           (row.ensures.2 ∙ ap (λ (l : List ℕ). zip_at (λ x y. y) (start.args.at + 1) l (encode_picks (column_picks (settings start.args.p) r.result start.args.p.columns w.done))) rows-noted);
     }
 
-pub visit-spec : {M : Type 1} → statement M
-visit-spec =
+pub visit_spec : {M : Type 1} → statement M
+visit_spec =
     tie.close
-    (tie.spec (λ c κs. c.before.before.before.requires.0.packable.rows_pos) note-requires (omega arith) visit-row-requires (omega arith) (omega arith) returns)
+    (tie.spec (λ c κs. c.requires.0.packable.rows_pos) note-requires (omega arith) visit_row-requires (omega arith) (omega arith) returns)

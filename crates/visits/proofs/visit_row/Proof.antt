@@ -19,42 +19,42 @@ use Rattle.visits.proofs.Recording.{column_noted}
 use Rattle.visits.proofs.visit_row.Statement.{statement}
 use Rattle.visits.proofs.visit_row.Tie as tie
 
-abbrev invariant-loop : tie.invariant-loop
+abbrev invariant-loop : tie.invariant-loop-col
 invariant-loop s₀ m₀ p record₀ at starts next₀ calls₀ col₀ s m «record» next calls col = (col ≤ p.columns) × (calls ≡ col) × (length m ≡ length m₀) × (length «record» ≡ length record₀) × Picked (settings p) s next × AtRows p.columns starts (λ r. (work s m ≡ visit_columns (settings p) r col (work s₀ m₀)) × («record» ≡ zip_at (λ (x y : ℕ). y) at record₀ (encode_picks (column_picks (settings p) r col (work s₀ m₀)))))
 
-abbrev decreases-loop : tie.decreases-loop
+abbrev decreases-loop : tie.decreases-loop-col
 decreases-loop s₀ m₀ p record₀ at starts next₀ calls₀ col₀ s m «record» next calls col = p.columns - col
 
-loop-holds : tie.Need-loop-init invariant-loop decreases-loop
+loop-holds : tie.Need-loop-col-init invariant-loop decreases-loop
 unfolding visit_columns column_picks encode_picks
 loop-holds c =
-    (omega arith, refl, refl, refl, c.pick-columns.ensures, λ r e. (loop_none _ _, sym (zip_at_none _ _ _)))
+    (omega arith, refl, refl, refl, c.pick_columns-next.ensures, λ r e. (loop_none _ _, sym (zip_at_none _ _ _)))
 
 note-requires : tie.Need-note-requires invariant-loop decreases-loop
 note-requires c κs =
-    let next = c.before.before.before.loop.invariant.4 in
-    let most = c.before.before.before.before.before.before.before.before.before.requires.0.columns_most in
+    let next = c.loop-col.invariant.4 in
+    let most = c.requires.0.columns_most in
     (omega (arith, next.col0), omega (arith, next.col1))
 
-visit-column-requires : tie.Need-visit-column-requires invariant-loop decreases-loop
-visit-column-requires c κs =
-    let head = c.before.before.before.before.before.before.before.before in
-    let d = head.loop.invariant in
-    (omega arith, d.4.col0, d.4.col1, rw (head.before.before.before.of.ensures, d.2) head.before.before.before.before.before.before.requires.1)
+visit_column-requires : tie.Need-visit_column-next-requires invariant-loop decreases-loop
+visit_column-requires c κs =
+    let head = c in
+    let d = head.loop-col.invariant in
+    (omega arith, d.4.col0, d.4.col1, rw (head.of-starts.ensures, d.2) head.requires.1)
 
-loop-again : tie.Need-loop-preserved invariant-loop decreases-loop
+loop-again : tie.Need-loop-col-preserved invariant-loop decreases-loop
 unfolding visit_columns
 loop-again c =
-    let visited = c.before.before.visit-column in
-    let noted = c.before.before.before.before.before.before.before.note in
-    let head = c.before.before.before.before.before.before.before.before.before.before.before in
-    let a = head.before.before.before.before.before.before.args in
-    let v = head.loop in
+    let visited = c.visit_column-next in
+    let noted = c.note in
+    let head = c in
+    let a = head.args in
+    let v = head.loop-col in
     let column-word : _ ≡ set v.«record» (a.at + v.col) (packed v.next.col0.0 v.next.col1.0) = noted.ensures in (
-      omega (arith, c.before.before.before.before.before.before.before.before.before.if1.true),
+      omega (arith, c.loop-col-test.true),
       ap (λ (n : ℕ). n + 1) v.invariant.1,
-      visited.auto.1.0 ∙ v.invariant.2,
-      noted.auto.0 ∙ v.invariant.3,
+      visited.auto.m ∙ v.invariant.2,
+      noted.auto.«record» ∙ v.invariant.3,
       visited.ensures.0,
       λ r e. (
         loop_more _ _ _ _ _ (v.invariant.5 r e).0
@@ -68,14 +68,14 @@ loop-again c =
 
 returns : tie.Need-returns invariant-loop decreases-loop
 returns c =
-    let a = c.before.before.before.before.before.before.before.before.args in
-    let v = c.before.before.loop in
+    let a = c.args in
+    let v = c.loop-col in
     let at_end : v.col ≡ a.p.columns = omega arith in
-    let done = v.invariant.5 a.rows c.before.before.before.before.before.of.ensures in
+    let done = v.invariant.5 a.rows c.of-starts.ensures in
     (omega arith, rw at_end at done.0, rw at_end at done.1)
 
-pub visit-row-spec : {M : Type 1} → statement M
-visit-row-spec =
+pub visit_row_spec : {M : Type 1} → statement M
+visit_row_spec =
     tie.close
-    (tie.spec invariant-loop decreases-loop (omega arith) (λ c κs. c.before.before.before.before.requires.0.columns_pos) loop-holds (omega arith) note-requires visit-column-requires (omega arith)
-    (omega arith) (omega arith) loop-again (λ c. c.before.before.loop.invariant.2) (λ c. c.before.before.loop.invariant.3) returns)
+    (tie.spec invariant-loop decreases-loop (omega arith) (λ c κs. c.requires.0.columns_pos) loop-holds (omega arith) note-requires visit_column-requires (omega arith)
+    (omega arith) (omega arith) loop-again (λ c. c.loop-col.invariant.2) (λ c. c.loop-col.invariant.3) returns)

@@ -9,20 +9,20 @@ use Rattle.walk_input.specs.Input.{rows_read}
 use Rattle.walk_input.proofs.rows_read.Statement.{statement}
 use Rattle.walk_input.proofs.rows_read.Tie as tie
 
-pub rows-read-spec : {M : Type 1} → statement M
+pub rows_read_spec : {M : Type 1} → statement M
 unfolding rows_read
-rows-read-spec =
+rows_read_spec =
     tie.close
-    (tie.spec (λ c. simp (lt-leb 1 (length c.before.before.args.input.now - 1) (omega arith)))
-    (omega arith) (λ c. simp (lt-leb (length c.before.before.before.args.input.now - 1) 5 (omega arith), and-false))
-    (omega arith) (λ c. simp (eq-eqb (get_or c.before.before.before.before.before.args.input.now 0 0) 48 (omega arith), and-false))
+    (tie.spec (λ c. simp (lt-leb 1 (length c.args.input.now - 1) (omega arith)))
+    (omega arith) (λ c. simp (lt-leb (length c.args.input.now - 1) 5 (omega arith), and-false))
+    (omega arith) (λ c. simp (eq-eqb (get_or c.args.input.now 0 0) 48 (omega arith), and-false))
     (omega arith)
     (λ c.
-    let input = c.before.before.before.before.before.before.before.args.input.now in
+    let input = c.args.input.now in
     simp (ne_eqb (get_or input (length input - 1) 0) 10 (λ e. omega arith), and-false))
     (λ c. simp length-take (omega arith)) (λ c κs. tt)
     (λ c.
-    let input = c.before.before.before.before.before.before.before.before.before.args.input.now in
+    let input = c.args.input.now in
     let n = length input - 1 in
     simp
     (le-leb 1 n (omega arith), le-leb n 5 (omega arith), ne_eqb (get_or input 0 0) 48 (λ e. omega arith), eq-eqb (get_or input n 0) 10 (omega arith))

@@ -7,11 +7,11 @@ use Rattle.setup_order.proofs.Windows.{Reached, reached_first, reached_next, rea
 use Rattle.walk_question.proofs.row1_of.Statement.{statement}
 use Rattle.walk_question.proofs.row1_of.Tie as tie
 
-pub row1-of-spec : {M : Type 1} → statement M
-row1-of-spec =
+pub row1_of_spec : {M : Type 1} → statement M
+row1_of_spec =
     tie.close
     (tie.spec (λ row0 o₀ row₀ o row. (row ≤ row0) × Reached row o) (λ row0 o₀ row₀ o row. row0 - row) (λ c κs. tt)
-    (λ c. (omega arith, reached_first c.first.ensures))
-    (λ c κs. reached_fits c.before.loop.invariant.1 (omega arith)) (omega arith) (omega arith)
-    (λ c. (omega arith, reached_next c.before.before.loop.invariant.1 c.next.ensures))
-    (λ c. (reached_row1 c.before.loop.invariant.1).0 ∙ ap row1_of (omega arith)))
+    (λ c. (omega arith, reached_first c.first-order.ensures))
+    (λ c κs. reached_fits c.before.loop-row.invariant.1 (omega arith)) (omega arith) (omega arith)
+    (λ c. (omega arith, reached_next c.before.before.loop-row.invariant.1 c.next-order.ensures))
+    (λ c. (reached_row1 c.before.loop-row.invariant.1).0 ∙ ap row1_of (omega arith)))

@@ -8,10 +8,10 @@ use Rattle.walk_question.specs.Question.{walk_answer}
 use Rattle.walk_question.proofs.walk.Statement.{statement}
 use Rattle.walk_question.proofs.walk.Tie as tie
 
-pub walk-spec : {M : Type 1} → statement M
+pub walk_spec : {M : Type 1} → statement M
 unfolding walk_answer walk_checks
-walk-spec =
+walk_spec =
     tie.close
-    (tie.spec (λ c κs. tt) (λ c. simp (sym c.before.walk-refusal.ensures, ne_eqb _ _ c.if1.true))
-    (λ c κs. omega (arith, accepted _ (omega arith) (sym c.before.walk-refusal.ensures ∙ c.if1.false)))
-    (λ c. simp (sym c.before.before.walk-refusal.ensures, eq-eqb _ _ c.before.if1.false, c.row1-of.ensures)))
+    (tie.spec (λ c κs. tt) (λ c. simp (sym c.before.walk_refusal-refusal.ensures, ne_eqb _ _ c.if-refusal-ne0.true))
+    (λ c κs. omega (arith, accepted _ (omega arith) (sym c.before.walk_refusal-refusal.ensures ∙ c.if-refusal-ne0.false)))
+    (λ c. simp (sym c.before.before.walk_refusal-refusal.ensures, eq-eqb _ _ c.before.if-refusal-ne0.false, c.row1_of.ensures)))

@@ -5,12 +5,12 @@ use Rattle.walk_text.specs.Output.{refused_line}
 use Rattle.walk_text.proofs.put_refused.Statement.{statement}
 use Rattle.walk_text.proofs.put_refused.Tie as tie
 
-pub put-refused-spec : {M : Type 1} → statement M
+pub put_refused_spec : {M : Type 1} → statement M
 unfolding refused_line
-put-refused-spec =
+put_refused_spec =
     tie.close
-    (tie.spec (omega arith) (omega arith) (omega arith) (omega arith) (omega arith) (omega arith)
+    (tie.spec (omega arith) (omega arith) (omega arith) (omega arith)
     (λ c.
-    let word = c.before.before.before.before.before.before.before.before.before.before.before.append.ensures in
-    let number = c.before.before.before.before.before.before.before.append-short.ensures in
-    word then number.0 then c.before.before.append2.ensures))
+    let word = c.before.before.before.before.before.before.before.before.before.before.before.append-word.ensures in
+    let number = c.before.before.before.before.before.before.before.append_short-end.ensures in
+    word then number.0 then c.before.before.append.ensures))

@@ -17,21 +17,21 @@ rows-number : (R : ℕ) → first (rows_check R ∷ []) ≤ 5
 unfolding first
 rows-number R = elim (refuses (rows_check R)) as (λ b. cond b 5 0 ≤ 5) [ true ↦ omega arith | false ↦ omega arith ]
 
-pub walk-output-spec : {M : Type 1} → statement M
+pub walk_output_spec : {M : Type 1} → statement M
 unfolding walk_output
-walk-output-spec =
+walk_output_spec =
     tie.close
-    (tie.spec (λ c κs. tt) (λ c κs. tt) (λ c κs. omega (arith, rows-number c.before.before.before.rows-read.result))
+    (tie.spec (λ c κs. tt) (λ c κs. tt) (λ c κs. omega (arith, rows-number c.rows_read-rows.result))
     (omega arith)
     (λ c.
-    let put = in_front c.before.before.Put-refused.ensures in
-    let asked = c.before.before.before.before.before in
-    let test = ne_eqb _ _ c.before.before.before.before.if1.true in
-    (put.0, simp (sym asked.before.rows-read.ensures, sym asked.rows-refusal.ensures, test) put.1))
-    (λ c κs. omega (arith, accepted _ (omega arith) (sym c.before.before.rows-refusal.ensures ∙ c.before.if1.false)))
+    let put = in_front c.put_refused.ensures in
+    let asked = c in
+    let test = ne_eqb _ _ c.if-number-ne0.true in
+    (put.0, simp (sym asked.rows_read-rows.ensures, sym asked.rows_refusal-number.ensures, test) put.1))
+    (λ c κs. omega (arith, accepted _ (omega arith) (sym c.rows_refusal-number.ensures ∙ c.if-number-ne0.false)))
     (omega arith)
     (λ c.
-    let put = in_front c.before.before.put-steps.ensures in
-    let asked = c.before.before.before.before.before in
-    let test = eq-eqb _ _ c.before.before.before.before.if1.false in
-    (put.0, simp (sym asked.before.rows-read.ensures, sym asked.rows-refusal.ensures, test) put.1)))
+    let put = in_front c.put_steps.ensures in
+    let asked = c in
+    let test = eq-eqb _ _ c.if-number-ne0.false in
+    (put.0, simp (sym asked.rows_read-rows.ensures, sym asked.rows_refusal-number.ensures, test) put.1)))

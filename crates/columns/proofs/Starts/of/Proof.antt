@@ -9,8 +9,8 @@ of_spec =
     tie.close
     (tie.spec (omega arith) (omega arith) (omega arith) (omega arith)
     (λ c i. record {
-      row0 = start_is c.before.before.before.of.ensures i;
-      row1 = start_is c.before.before.of2.ensures i;
-      prev0 = start_is c.before.of3.ensures i;
-      prev1 = start_is c.of4.ensures i;
+      row0 = start_is c.before.before.before.of-row0.ensures i;
+      row1 = start_is c.before.before.of-row1.ensures i;
+      prev0 = start_is c.before.of-prev0.ensures i;
+      prev1 = start_is c.of-prev1.ensures i;
     }))

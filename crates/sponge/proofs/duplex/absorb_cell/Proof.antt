@@ -3,6 +3,6 @@ use Rattle.sponge.specs.Sponge.{absorb}
 use Rattle.sponge.proofs.duplex.absorb_cell.Statement.{statement}
 use Rattle.sponge.proofs.duplex.absorb_cell.Tie as tie
 
-pub absorb-cell-spec : {M : Type 1} → statement M
+pub absorb_cell_spec : {M : Type 1} → statement M
 unfolding absorb
-absorb-cell-spec = tie.close (tie.spec (omega arith) (omega arith) (λ c. cc))
+absorb_cell_spec = tie.close (tie.spec (omega arith) (omega arith) (λ c. cc))

@@ -3,6 +3,6 @@ use Rattle.sponge.specs.Sponge.{absorb}
 use Rattle.sponge.proofs.duplex.duplex.Statement.{statement}
 use Rattle.sponge.proofs.duplex.duplex.Tie as tie
 
-pub duplex-spec : {M : Type 1} → statement M
+pub duplex_spec : {M : Type 1} → statement M
 unfolding absorb
-duplex-spec = tie.close (tie.spec (omega arith) (omega arith) (λ c. cc))
+duplex_spec = tie.close (tie.spec (omega arith) (omega arith) (λ c. cc))

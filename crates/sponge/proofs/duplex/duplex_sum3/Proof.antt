@@ -3,6 +3,6 @@ use Rattle.sponge.specs.Sponge.{absorb}
 use Rattle.sponge.proofs.duplex.duplex_sum3.Statement.{statement}
 use Rattle.sponge.proofs.duplex.duplex_sum3.Tie as tie
 
-pub duplex-sum3-spec : {M : Type 1} → statement M
+pub duplex_sum3_spec : {M : Type 1} → statement M
 unfolding absorb
-duplex-sum3-spec = tie.close (tie.spec (omega arith) (omega arith) (λ c. cc))
+duplex_sum3_spec = tie.close (tie.spec (omega arith) (omega arith) (λ c. cc))

@@ -3,6 +3,6 @@ use Rattle.sponge.specs.Sponge.{absorb}
 use Rattle.sponge.proofs.duplex.duplex_sum4.Statement.{statement}
 use Rattle.sponge.proofs.duplex.duplex_sum4.Tie as tie
 
-pub duplex-sum4-spec : {M : Type 1} → statement M
+pub duplex_sum4_spec : {M : Type 1} → statement M
 unfolding absorb
-duplex-sum4-spec = tie.close (tie.spec (omega arith) (omega arith) (λ c. cc))
+duplex_sum4_spec = tie.close (tie.spec (omega arith) (omega arith) (λ c. cc))
