@@ -8,7 +8,7 @@ cd "$(dirname "$0")/.." || exit 2
 . scripts/needed.sh || exit 2
 
 # The crates that carry the promises of docs/PROMISES.md, the libraries, Rust's packages with tests, and tests/*.sh.
-crates='costs choice choosing deriving checking recorded walk_question walk statements end_states line_form line_reading line_writing accounts book_finding book_changes book_check lanes_derivation lanes_deriving lane_statements derivation_export'
+crates='costs choice choosing plain_deriving checking recorded walk_question walk statements end_states line_form line_reading line_writing accounts book_finding book_changes book_check lanes_derivation lanes_deriving lane_statements derivation_export'
 libraries='derivation_export sponge_export'
 packages='bench cli derivation-link lyra2 memory reference sponge-link'
 scripts='build c_example c_interface cargo counting derive install permute row_starts valgrind walk'

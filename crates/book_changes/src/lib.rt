@@ -1,5 +1,6 @@
 // Adding an account to a book, and removing one. Nothing is changed before all checks are passed.
 #![tactic(auto)]
+
 ghost use Rattle.std.specs.Prelude.{◌≡◌, false, length};
 ghost use Rattle.refusals.specs.Checks.{first, refuses, stored_checks};
 ghost use Rattle.accounts.specs.Promises.{account, good_book, Removed, Added};

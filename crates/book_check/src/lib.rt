@@ -1,5 +1,6 @@
 // The check of a password against an account of a book.
 #![tactic(auto)]
+
 ghost use Rattle.std.specs.Prelude.{◌≡◌, true, false, drop};
 ghost use Rattle.derivation.specs.Answers.{flag, no_costs};
 ghost use Rattle.accounts.specs.Accounts.{account_of, is_whole};

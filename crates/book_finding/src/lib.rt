@@ -1,5 +1,6 @@
 // Whether the used bytes of a slice are a book, and finding an account in it.
 #![tactic(auto)]
+
 ghost use Rattle.std.specs.Prelude.{◌≡◌, not};
 ghost use Rattle.refusals.specs.Checks.{refuses};
 ghost use Rattle.accounts.specs.Promises.{good_book, no_place, find_answer};

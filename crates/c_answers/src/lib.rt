@@ -1,6 +1,7 @@
 // An answer under a C name: its fields are stored where the caller lends a place for them, zeros where the call was refused, and its
 // number is returned. These functions have no proof file, so that a field left alone is refused for what they ensure.
 #![tactic(auto)]
+
 ghost use Rattle.std.specs.Prelude.{◌≡◌, [], ◌∷◌};
 ghost use Rattle.derivation.specs.Answers.{flag as «number_of_lem»};
 ghost use Rattle.c_answers.specs.Stored.{stored as «counts-stored», stored_choice, stored_values, stored_length, stored_place, stored_entry};

@@ -1,5 +1,6 @@
 // The check of a stored key.
 #![tactic(auto)]
+
 ghost use Rattle.std.specs.Prelude.{◌≡◌, length};
 ghost use Rattle.input.specs.Input.{input};
 ghost use Rattle.derivation.specs.Answers.{flag};

@@ -70,7 +70,7 @@ pub extern "C" fn lyra2_derive(
     ensures { Derived (parameters time rows columns rounds rotation mixer) (input password.now salt.now (length key.old)) key.old matrix.old key.new matrix.new («counts-stored» result counts.new) }
 {
     let p = gathered(time, rows, columns, rounds, rotation, mixer);
-    store_costs(deriving::derive(password, salt, p, key, matrix), counts)
+    store_costs(plain_deriving::derive(password, salt, p, key, matrix), counts)
 }
 
 // The check: `same` becomes 1 where the stored bytes are the key, else 0. The used matrix is left as zeros.

@@ -1,5 +1,6 @@
 // A run of several lanes over the matrix: their inputs, Setup, the visits, then the last cells.
 #![tactic(auto)]
+
 ghost use Rattle.std.specs.Prelude.{◌≡◌, ◌+◌, ◌*◌, ◌-◌, ◌≤◌, ◌<◌, length, replicate};
 ghost use Rattle.lists.specs.Loop.{loop};
 ghost use Rattle.lists.specs.Zip.{tabulate};

@@ -1,5 +1,6 @@
 // Reading a login line into two lent outputs.
 #![tactic(auto)]
+
 ghost use Rattle.std.specs.Prelude.{◌≡◌, ◌≤◌, [], ◌∷◌, length};
 ghost use Rattle.lists.specs.Zip.{put_into};
 ghost use Rattle.refusals.specs.Checks.{◌≤?◌, first, answered, output_check};

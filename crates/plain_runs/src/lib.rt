@@ -1,5 +1,6 @@
 // A run of the sponge over the matrix for the key alone: no visit is noted down, and nothing is left in the used matrix.
 #![tactic(auto)]
+
 ghost use Rattle.std.specs.Prelude.{length};
 ghost use Rattle.input.specs.Input.{input, lengths};
 ghost use Rattle.refusals.specs.Checks.{Accepted, plain_checks};

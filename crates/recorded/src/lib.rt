@@ -1,5 +1,6 @@
 // The recorded derivation: the plain one, with its visits noted down and the state after the last of them.
 #![tactic(auto)]
+
 ghost use Rattle.std.specs.Prelude.{◌≡◌, length};
 ghost use Rattle.input.specs.Input.{input};
 ghost use Rattle.derivation.specs.Promises.{recorded_number, Recorded as «recorded-contract»};

@@ -1,11 +1,16 @@
 // The walk program: reads R from standard input and writes a line for each Setup step to standard output.
 #![tactic(auto)]
 
-fn main() {
-    // One byte more than the longest input that is accepted, so that a longer one is seen to be longer.
-    let mut input = [0u8; 7];
-    let n = io::read_full(libc::STDIN_FILENO, &mut input);
+use std::io;
+use std::io::{Input, Read, Write};
+
+// One byte more than the longest input that is accepted, so that a longer one is seen to be longer.
+const INPUT_BYTES: u64 = 7;
+
+fn main(rt: HostRuntime) -> io::Result<()> {
+    let mut input = Vec::new(rt.alloc());
+    rt.reader().take(INPUT_BYTES).read_to_end(&mut input)?;
     let mut out = [0u8; walk_text::OUTPUT_BYTES];
-    let end = walk_text::walk_output(&input[..n], &mut out);
-    io::write_all(libc::STDOUT_FILENO, &out[..end]);
+    let end = walk_text::walk_output(&input, &mut out);
+    io::writer(&rt).write_all(&out[..end])
 }

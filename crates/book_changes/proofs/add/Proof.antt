@@ -13,12 +13,12 @@ add_spec =
     tie.close
     (tie.spec (λ c κs. tt) (λ c κs. tt)
     (λ c.
-    let a = c.before.before.before.before.before.before.args in
-    stored_refused (account a.number a.p a.salt.now a.key.now) a.used a.book.now c.before.before.stored-refusal.ensures c.before.if1.true c.no_place.ensures)
+    let a = c.args in
+    stored_refused (account a.number a.p a.salt.now a.key.now) a.used a.book.now c.stored_refusal-refusal.ensures c.if-refusal-ne0.true c.no_place.ensures)
     (λ c κs. tt) (λ c κs. tt) (omega arith)
     (λ c.
-    let a = c.before.before.before.before.before.before.before.before.before.args in
-    book_refused (account a.number a.p a.salt.now a.key.now) a.used a.book.now c.before.before.before.before.before.stored-refusal.ensures c.before.before.before.before.if1.false
-    (bad_book a.used a.book.now c.before.before.is_book.ensures (not-true _ c.before.if2.true)) c.no-place2.ensures)
-    (λ c κs. (sym c.before.before.before.before.before.stored-refusal.ensures ∙ c.before.before.before.before.if1.false, not-true _ (sym c.before.before.is_book.ensures ∙ not-false _ c.before.if2.false)))
-    (omega arith) (λ c. c.before.before.add-to-book.ensures))
+    let a = c.args in
+    book_refused (account a.number a.p a.salt.now a.key.now) a.used a.book.now c.stored_refusal-refusal.ensures c.if-refusal-ne0.false
+    (bad_book a.used a.book.now c.is_book.ensures (c.if-not-is_book.true)) c.no_place-then-not-is_book.ensures)
+    (λ c κs. (sym c.stored_refusal-refusal.ensures ∙ c.if-refusal-ne0.false, not-true _ (sym c.is_book.ensures ∙ c.if-not-is_book.false)))
+    (omega arith) (λ c. c.add_to_book.ensures))

@@ -7,44 +7,40 @@ use Rattle.accounts.proofs.Rewriting.{found_book, found_at, place_fits, size_fit
 use Rattle.book_changes.proofs.remove.Statement.{statement}
 use Rattle.book_changes.proofs.remove.Tie as tie
 
-take-out-requires : tie.Need-take-out-requires
-take-out-requires c κs =
-    let find = c.before.before.before.before.before in
-    let start = find.before.before.before in
-    let a = start.args in
+take_out-requires : tie.Need-take_out-requires
+take_out-requires c κs =
+    let a = c.args in
     let book = a.book.now in
-    let z = c.before.before.before.if1.false in
-    let g = found_book a.number a.used book find.find.ensures z in (
-      place_fits a.number a.used book (λ i. (find.before.before.slice-known.given i).fits) g (found_at a.number a.used book find.find.ensures z)
-          (ap (λ (e : Entry). e.size) c.before.account-at.ensures),
+    let z = c.if-found-ne0.false in
+    let g = found_book a.number a.used book c.find-found.ensures z in (
+      place_fits a.number a.used book (λ i. (c.slice_known-1.given i).fits) g (found_at a.number a.used book c.find-found.ensures z)
+          (ap (λ (e : Entry). e.size) c.account_at-size.ensures),
       g.inside,
     )
 
-sub-t15 : tie.Need-overflow-sub-t15
+sub-t15 : tie.Need-overflow_sub-result
 sub-t15 c =
-    let find = c.before.before.before.before.before.before.before.before in
-    let a = find.before.before.before.args in
+    let a = c.args in
     let book = a.book.now in
-    let z = c.before.before.before.before.before.before.if1.false in
+    let z = c.if-found-ne0.false in
     omega (
       arith,
-      size_fits a.number a.used book (λ i. (find.before.before.slice-known.given i).fits) (found_book a.number a.used book find.find.ensures z)
-          (found_at a.number a.used book find.find.ensures z) (ap (λ (e : Entry). e.size) c.before.before.before.before.account-at.ensures),
+      size_fits a.number a.used book (λ i. (c.slice_known-1.given i).fits) (found_book a.number a.used book c.find-found.ensures z)
+          (found_at a.number a.used book c.find-found.ensures z) (ap (λ (e : Entry). e.size) c.account_at-size.ensures),
     )
 
-returns-2 : tie.Need-returns-2
+returns-2 : tie.Need-returns
 returns-2 c =
-    let find = c.before.before.before.before.before.before.before.before in
-    let a = find.before.before.before.args in
-    removed a.number a.used a.book.now find.find.ensures c.before.before.before.before.before.before.if1.false (λ i. (find.before.before.slice-known.given i).fits)
-    (ap (λ (e : Entry). e.size) c.before.before.before.before.account-at.ensures) c.before.before.take_out.ensures
+    let a = c.args in
+    removed a.number a.used a.book.now c.find-found.ensures c.if-found-ne0.false (λ i. (c.slice_known-1.given i).fits)
+    (ap (λ (e : Entry). e.size) c.account_at-size.ensures) c.take_out.ensures
 
-pub remove-spec : {M : Type 1} → statement M
-remove-spec =
+pub remove_spec : {M : Type 1} → statement M
+remove_spec =
     tie.close
-    (tie.spec (λ c κs. tt) (omega arith) (λ c. remove_refused _ _ _ c.before.before.find.ensures c.if1.true)
-    (λ c. let a = c.before.before.before.before.before.args in (found_book a.number a.used a.book.now c.before.before.find.ensures c.if1.false).inside)
+    (tie.spec (λ c κs. tt) (omega arith) (λ c. remove_refused _ _ _ c.find-found.ensures c.if-found-ne0.true)
+    (λ c. let a = c.args in (found_book a.number a.used a.book.now c.find-found.ensures c.if-found-ne0.false).inside)
     (λ c.
-    let a = c.before.before.before.before.before.before.args in
-    sym (length-take-le _ _ (found_book a.number a.used a.book.now c.before.before.before.find.ensures c.before.if1.false).inside))
-    (λ c κs. tt) take-out-requires sub-t15 (omega arith) returns-2)
+    let a = c.args in
+    sym (length-take-le _ _ (found_book a.number a.used a.book.now c.find-found.ensures c.if-found-ne0.false).inside))
+    (λ c κs. tt) take_out-requires sub-t15 (omega arith) returns-2)

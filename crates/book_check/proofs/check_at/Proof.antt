@@ -10,18 +10,18 @@ returns c =
     let start = at.before.before.before.before in
     let part = start.args.part.now in
     let place = start.args.place in
-    checked_as (parameters_lent part place start.requires at.account-at.ensures c.before.before.before.before.before.before.before.usual.ensures) (salt_lent part place start.requires at.account-at.ensures)
-    (key_lent part place start.requires at.account-at.ensures) _ _ _ _ _ c.before.before.check.ensures
+    checked_as (parameters_lent part place start.requires at.account_at-e.ensures c.before.before.before.before.before.before.before.usual-p.ensures) (salt_lent part place start.requires at.account_at-e.ensures)
+    (key_lent part place start.requires at.account_at-e.ensures) _ _ _ _ _ c.before.before.check.ensures
 
-pub check-at-spec : {M : Type 1} → statement M
-check-at-spec =
+pub check_at_spec : {M : Type 1} → statement M
+check_at_spec =
     tie.close
     (tie.spec (λ c κs. tt)
-    (λ c. let start = c.before.before.before.before in omega (arith, parts_inside start.args.part.now start.args.place start.requires c.account-at.ensures))
-    (λ c. let start = c.before.before.before.before.before in omega (arith, parts_inside start.args.part.now start.args.place start.requires c.before.account-at.ensures))
+    (λ c. let start = c.before.before.before.before in omega (arith, parts_inside start.args.part.now start.args.place start.requires c.account_at-e.ensures))
+    (λ c. let start = c.before.before.before.before.before in omega (arith, parts_inside start.args.part.now start.args.place start.requires c.before.account_at-e.ensures))
     (λ c κs. tt) (omega arith) (omega arith)
-    (λ c. let start = c.before.before.before.before.before.before in omega (arith, parts_inside start.args.part.now start.args.place start.requires c.before.before.account-at.ensures))
-    (λ c. let start = c.before.before.before.before.before.before.before.before in omega (arith, parts_inside start.args.part.now start.args.place start.requires c.before.before.before.before.account-at.ensures))
+    (λ c. let start = c.before.before.before.before.before.before in omega (arith, parts_inside start.args.part.now start.args.place start.requires c.before.before.account_at-e.ensures))
+    (λ c. let start = c.before.before.before.before.before.before.before.before in omega (arith, parts_inside start.args.part.now start.args.place start.requires c.before.before.before.before.account_at-e.ensures))
     (omega arith) (omega arith)
-    (λ c. let start = c.before.before.before.before.before.before.before.before in omega (arith, parts_inside start.args.part.now start.args.place start.requires c.before.before.before.before.account-at.ensures))
+    (λ c. let start = c.before.before.before.before.before.before.before.before in omega (arith, parts_inside start.args.part.now start.args.place start.requires c.before.before.before.before.account_at-e.ensures))
     (λ c κs. tt) (omega arith) returns)

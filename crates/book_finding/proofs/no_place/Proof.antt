@@ -4,6 +4,6 @@ use Rattle.accounts.specs.Promises.{no_place}
 use Rattle.book_finding.proofs.no_place.Statement.{statement}
 use Rattle.book_finding.proofs.no_place.Tie as tie
 
-pub no-place-spec : {M : Type 1} → statement M
+pub no_place_spec : {M : Type 1} → statement M
 unfolding no_place
-no-place-spec = tie.close (tie.spec (λ c. refl))
+no_place_spec = tie.close (tie.spec (λ c. refl))

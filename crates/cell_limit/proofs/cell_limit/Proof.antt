@@ -9,19 +9,18 @@ use Rattle.cell_limit.proofs.cell_limit.Tie as tie
 
 returns : tie.Need-returns-then-g-full
 returns c =
-    let a = c.before.before.before.args in
-    let full : _ ≡ full_spent a.l = c.before.before.full_spent-full.ensures in
+    let a = c.args in
+    let full : _ ≡ full_spent a.l = c.full_spent-full.ensures in
     sym (limit_none a.l a.g (omega (arith, full, c.if-g-full.true)))
 
 returns-2 : tie.Need-returns
 returns-2 c =
-    let start = c.before.before.before.before.before.before.before in
-    let a = start.before.args in
+    let a = c.args in
     let g = a.g in
-    let full : _ ≡ full_spent a.l = start.full_spent-full.ensures in
-    let enough : full_spent a.l ≤ g.budget = omega (arith, full, c.before.before.before.before.before.if-g-full.false) in
-    let rounds : _ ≡ min ((g.budget - start.full_spent-full.result) / (2 * g.rounds)) 4194304 = c.before.smaller.ensures in
-    let all : _ ≡ min (g.words / 12) c.before.smaller.result = c.smaller-2.ensures in
+    let full : _ ≡ full_spent a.l = c.full_spent-full.ensures in
+    let enough : full_spent a.l ≤ g.budget = omega (arith, full, c.if-g-full.false) in
+    let rounds : _ ≡ min ((g.budget - c.full_spent-full.result) / (2 * g.rounds)) 4194304 = c.smaller.ensures in
+    let all : _ ≡ min (g.words / 12) c.smaller.result = c.smaller-2.ensures in
     all ∙ ap (λ (n : ℕ). min (g.words / 12) n) (rounds ∙ ap (λ (n : ℕ). min ((g.budget - n) / (2 * g.rounds)) 4194304) full)
     ∙ sym (limit_some a.l g enough)
 

@@ -13,22 +13,22 @@ returns : tie.Need-returns
 returns c =
     let start = c.before.before.before.before.before.before.before.before.before.before.before.before.before.before.before in
     let none = start.requires in
-    let run = c.before.before.before.before.before.before.before.before.run-plain.ensures in
-    let key = c.before.before.before.before.compare.ensures in
+    let run = c.before.before.before.before.before.before.before.before.run_plain-ran.ensures in
+    let key = c.before.before.before.before.compare-c.ensures in
     record {
-      answer = cost_yes _ _ none (costs_after _ _ _ (plain_accepted _ _ _ none) run.full (c.before.before.clear-run.ensures.0 ∙ key.2) run.reduced c.spent.ensures);
+      answer = cost_yes _ _ none (costs_after _ _ _ (plain_accepted _ _ _ none) run.full (c.before.before.clear_run-calls.ensures.0 ∙ key.2) run.reduced c.spent-costs.ensures);
       same_is = answered-yes _ _ none (ap flag (key.0 ∙ ap (same_bytes _) (key_after start.args.p _ _ run.state_is)));
       matrix_after = answered-yes _ _ none run.matrix_is;
     }
 
-pub check-accepted-spec : {M : Type 1} → statement M
-check-accepted-spec =
+pub check_accepted_spec : {M : Type 1} → statement M
+check_accepted_spec =
     tie.close
     (tie.spec (λ c κs. plain_accepted _ _ _ c.before.before.before.before.before.before.requires) (omega arith) (omega arith)
     (λ c.
-    let run = c.before.before.before.before.before.before.before.run-plain.ensures in
-    omega (arith, counts_fit _ _ _ (plain_accepted _ _ _ c.before.before.before.before.before.before.before.before.before.before.before.before.before.before.requires) run.full (c.before.clear-run.ensures.0 ∙ c.before.before.before.compare.ensures.2) run.reduced))
+    let run = c.before.before.before.before.before.before.before.run_plain-ran.ensures in
+    omega (arith, counts_fit _ _ _ (plain_accepted _ _ _ c.before.before.before.before.before.before.before.before.before.before.before.before.before.before.requires) run.full (c.before.clear_run-calls.ensures.0 ∙ c.before.before.before.compare-c.ensures.2) run.reduced))
     (λ c κs.
-    let run = c.before.before.before.before.before.before.before.run-plain.ensures in
-    omega (arith, counts_fit _ _ _ (plain_accepted _ _ _ c.before.before.before.before.before.before.before.before.before.before.before.before.before.before.requires) run.full (c.before.clear-run.ensures.0 ∙ c.before.before.before.compare.ensures.2) run.reduced))
+    let run = c.before.before.before.before.before.before.before.run_plain-ran.ensures in
+    omega (arith, counts_fit _ _ _ (plain_accepted _ _ _ c.before.before.before.before.before.before.before.before.before.before.before.before.before.before.requires) run.full (c.before.clear_run-calls.ensures.0 ∙ c.before.before.before.compare-c.ensures.2) run.reduced))
     (omega arith) returns)

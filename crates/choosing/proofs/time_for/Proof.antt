@@ -9,24 +9,22 @@ use Rattle.choosing.proofs.time_for.Tie as tie
 
 returns : tie.Need-returns
 returns c =
-    let start = c.before.before.before.before.before in
-    let a = start.args in
+    let a = c.args in
     let g = a.g in
-    let pre = start.requires in
-    let full : _ ≡ full_spent a.l = c.before.before.full_spent.ensures in
-    let time : _ ≡ min ((g.budget - c.before.before.full_spent.result) / (g.rounds * cells a.s) - 1) 255 = c.smaller.ensures in
+    let pre = c.requires in
+    let full : _ ≡ full_spent a.l = c.full_spent.ensures in
+    let time : _ ≡ min ((g.budget - c.full_spent.result) / (g.rounds * cells a.s) - 1) 255 = c.smaller.ensures in
     time ∙ ap (λ (n : ℕ). min ((g.budget - n) / (g.rounds * cells a.s) - 1) 255) full ∙ time_is a.l g a.s pre.1 pre.4
 
 pub time_for_spec : {M : Type 1} → statement M
 time_for_spec =
     tie.close
     (tie.spec (omega arith) (omega arith) (omega arith)
-    (λ c. let start = c.before.before.before.before in omega (arith, c.before.full_spent.ensures, spends_is start.args.l start.args.g 1 start.args.s, start.requires.4))
+    (λ c. omega (arith, c.full_spent.ensures, spends_is c.args.l c.args.g 1 c.args.s, c.requires.4))
     (omega arith)
     (λ c.
-    let begun = c.before.before.before.before in
-    let a = begun.args in
-    let full : _ ≡ full_spent a.l = c.before.full_spent.ensures in
+    let a = c.args in
+    let full : _ ≡ full_spent a.l = c.full_spent.ensures in
     let turns = ap (λ (n : ℕ). (a.g.budget - n) / (a.g.rounds * cells a.s)) full in
-    omega (arith, turns, two_turns a.l a.g a.s begun.requires.1 begun.requires.4))
+    omega (arith, turns, two_turns a.l a.g a.s c.requires.1 c.requires.4))
     (omega arith) returns)

@@ -4,6 +4,6 @@ use Rattle.lanes_derivation.specs.LanesCosts.{lane_blocks}
 use Rattle.lane_runs.proofs.absorb_lane.Statement.{statement}
 use Rattle.lane_runs.proofs.absorb_lane.Tie as tie
 
-pub absorb-lane-spec : {M : Type 1} → statement M
+pub absorb_lane_spec : {M : Type 1} → statement M
 unfolding lane_blocks
-absorb-lane-spec = tie.close (tie.spec (omega arith) (omega arith) (λ c. c.absorb-padded.ensures))
+absorb_lane_spec = tie.close (tie.spec (omega arith) (omega arith) (λ c. c.absorb_padded.ensures))

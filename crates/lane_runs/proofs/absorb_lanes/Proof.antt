@@ -15,48 +15,48 @@ use Rattle.lanes_derivation.proofs.LanesCounted.{blocks_most}
 use Rattle.lane_runs.proofs.absorb_lanes.Statement.{statement}
 use Rattle.lane_runs.proofs.absorb_lanes.Tie as tie
 
-abbrev invariant-loop : tie.invariant-loop
+abbrev invariant-loop : tie.invariant-loop-i
 invariant-loop states₀ password salt key_length_lem lanes p calls₀ i₀ states calls i =
     let x = input password salt key_length_lem in
     (i ≤ lanes) × (calls ≡ i * lane_blocks (lengths x)) × (length states ≡ length states₀) × (states ≡ loop (absorb_lane (settings p) lanes x) i states₀)
 
-abbrev decreases-loop : tie.decreases-loop
+abbrev decreases-loop : tie.decreases-loop-i
 decreases-loop states₀ password salt key_length_lem lanes p calls₀ i₀ states calls i = lanes - i
 
-loop-holds : tie.Need-loop-init invariant-loop decreases-loop
+loop-holds : tie.Need-loop-i-init invariant-loop decreases-loop
 loop-holds c = (omega arith, sym (zero-mul _), refl, loop_none _ _)
 
-add-calls : tie.Need-overflow-add-calls invariant-loop decreases-loop
+add-calls : tie.Need-overflow_add-calls invariant-loop decreases-loop
 add-calls c =
-    let v = c.before.before.before.loop in
-    let a = c.before.before.before.before.before.before.args in
-    let pre = c.before.before.before.before.before.before.requires in
-    let l = lengths (input a.password.now a.salt.now a.key-length) in
+    let v = c.loop-i in
+    let a = c.args in
+    let pre = c.requires in
+    let l = lengths (input a.password.now a.salt.now a.key_length) in
     let few = blocks_most l pre.2 pre.3 in
-    omega (arith, v.invariant.1, c.absorb-lane.ensures.1, few, row_before v.i a.lanes (lane_blocks l) c.before.before.loop-test.true, lanes-blocks a.lanes (lane_blocks l) pre.1 few)
+    omega (arith, v.invariant.1, c.absorb_lane-calls.ensures.1, few, row_before v.i a.lanes (lane_blocks l) c.loop-i-test.true, lanes-blocks a.lanes (lane_blocks l) pre.1 few)
   where
     lanes-blocks : (p b : ℕ) → p ≤ 8 → b ≤ 18 → p * b ≤ 144
     lanes-blocks p b hp hb = mul-le-mul hp hb
 
-loop-again : tie.Need-loop-preserved invariant-loop decreases-loop
+loop-again : tie.Need-loop-i-preserved invariant-loop decreases-loop
 loop-again c =
-    let v = c.before.before.before.loop in
-    let a = c.before.before.before.before.before.before.args in
-    let absorbed = c.absorb-lane in
-    let l = lengths (input a.password.now a.salt.now a.key-length) in (
-      omega (arith, c.before.before.loop-test.true),
+    let v = c.loop-i in
+    let a = c.args in
+    let absorbed = c.absorb_lane-calls in
+    let l = lengths (input a.password.now a.salt.now a.key_length) in (
+      omega (arith, c.loop-i-test.true),
       omega (arith, v.invariant.1, absorbed.ensures.1, row_more v.i (lane_blocks l)),
-      length-set v.states v.i absorbed.new.0 ∙ v.invariant.2,
+      length-set v.states v.i absorbed.new.s ∙ v.invariant.2,
       loop_more _ _ _ _ _ v.invariant.3 (ap (set v.states v.i) absorbed.ensures.0),
     )
 
 returns : tie.Need-returns invariant-loop decreases-loop
 returns c =
-    let v = c.before.loop in
-    let at_end : v.i ≡ c.before.before.before.before.args.lanes = omega arith in
+    let v = c.loop-i in
+    let at_end : v.i ≡ c.args.lanes = omega arith in
     (rw (← at_end) v.invariant.1, loop_end _ _ _ _ _ v.invariant.3 at_end)
 
-pub absorb-lanes-spec : {M : Type 1} → statement M
-absorb-lanes-spec =
+pub absorb_lanes_spec : {M : Type 1} → statement M
+absorb_lanes_spec =
     tie.close
-    (tie.spec invariant-loop decreases-loop loop-holds (omega arith) (omega arith) (λ c κs. omega (arith, c.before.before.before.before.before.requires)) add-calls (omega arith) (omega arith) loop-again (λ c. c.before.loop.invariant.2) returns)
+    (tie.spec invariant-loop decreases-loop loop-holds (omega arith) (omega arith) (λ c κs. omega (arith, c.requires)) add-calls (omega arith) (omega arith) loop-again (λ c. c.loop-i.invariant.2) returns)

@@ -12,28 +12,28 @@ use Rattle.lane_runs.proofs.last_rows.Tie as tie
 abbrev put : ℕ → ℕ → ℕ
 put x y = y
 
-abbrev invariant-loop : tie.invariant-loop
+abbrev invariant-loop : tie.invariant-loop-i
 invariant-loop prevs₀ lanes i₀ prevs i = Placed put 0 prevs₀ (tabulate lanes.lanes (λ j. j * lanes.rows + (lanes.rows - 1))) prevs i lanes.lanes
 
-abbrev decreases-loop : tie.decreases-loop
+abbrev decreases-loop : tie.decreases-loop-i
 decreases-loop prevs₀ lanes i₀ prevs i = lanes.lanes - i
 
-mul-prevs : tie.Need-overflow-mul-prevs invariant-loop decreases-loop
-mul-prevs c = omega (arith, row_before c.before.before.before.loop.i c.before.before.before.before.args.lanes.lanes c.before.before.before.before.args.lanes.rows c.before.if1.true, c.before.before.before.before.requires.2)
+mul-prevs : tie.Need-overflow_mul-prevs invariant-loop decreases-loop
+mul-prevs c = omega (arith, row_before c.before.before.before.loop-i.i c.before.before.before.before.args.lanes.lanes c.before.before.before.before.args.lanes.rows c.before.loop-i-test.true, c.before.before.before.before.requires.2)
 
-add-prevs : tie.Need-overflow-add-prevs invariant-loop decreases-loop
-add-prevs c = omega (arith, row_before c.before.before.before.before.loop.i c.before.before.before.before.before.args.lanes.lanes c.before.before.before.before.before.args.lanes.rows c.before.before.if1.true, c.before.before.before.before.before.requires.2)
+add-prevs : tie.Need-overflow_add-prevs invariant-loop decreases-loop
+add-prevs c = omega (arith, row_before c.before.before.before.before.loop-i.i c.before.before.before.before.before.args.lanes.lanes c.before.before.before.before.before.args.lanes.rows c.before.before.loop-i-test.true, c.before.before.before.before.before.requires.2)
 
-loop-again : tie.Need-loop-preserved invariant-loop decreases-loop
+loop-again : tie.Need-loop-i-preserved invariant-loop decreases-loop
 loop-again c =
-    let v = c.before.before.before.before.loop in
-    placed_again put v.invariant c.before.before.if1.true (omega arith) (sym (get_or-tabulate c.before.before.before.before.before.args.lanes.lanes _ v.i c.before.before.if1.true))
+    let v = c.before.before.before.before.loop-i in
+    placed_again put v.invariant c.before.before.loop-i-test.true (omega arith) (sym (get_or-tabulate c.before.before.before.before.before.args.lanes.lanes _ v.i c.before.before.loop-i-test.true))
 
 returns : tie.Need-returns invariant-loop decreases-loop
 unfolding zip_at
-returns c = placed_end put c.before.before.loop.invariant (omega (arith, c.if1.false)) ∙ put_all _ _ (length-tabulate _ _ ∙ sym c.before.before.before.requires.0)
+returns c = placed_end put c.before.before.loop-i.invariant (omega (arith, c.loop-i-test.false)) ∙ put_all _ _ (length-tabulate _ _ ∙ sym c.before.before.before.requires.0)
 
-pub last-rows-spec : {M : Type 1} → statement M
-last-rows-spec =
+pub last_rows_spec : {M : Type 1} → statement M
+last_rows_spec =
     tie.close
-    (tie.spec invariant-loop decreases-loop (λ c. placed_none put (length-tabulate _ _)) mul-prevs (omega arith) add-prevs (omega arith) (omega (arith)) (omega arith) (omega arith) loop-again (λ c. c.before.before.loop.invariant.long) returns)
+    (tie.spec invariant-loop decreases-loop (λ c. placed_none put (length-tabulate _ _)) mul-prevs (omega arith) add-prevs (omega arith) (omega (arith)) (omega arith) (omega arith) loop-again (λ c. c.before.before.loop-i.invariant.long) returns)

@@ -42,83 +42,83 @@ loop-holds c =
 
 sub-visits_in_turn : tie.Need-overflow_sub-end invariant-loop decreases-loop
 sub-visits_in_turn c =
-    let v = c.loop in
+    let v = c.loop-first in
     let a = c.args in
     let pre = c.requires in
     let sqrt_pos : 1 ≤ a.sqrt = omega (arith, pre.4, (sqrt_range pre.0).0) in
-    let before : v.first < a.lanes.rows * a.p.time = c.loop-test.true in
+    let before : v.first < a.lanes.rows * a.p.time = c.loop-first-test.true in
     let later : v.first < v.next = omega (arith, v.invariant.1, v.invariant.2, visit_steps a.sqrt sqrt_pos v.t) in
-    omega (arith, c.earlier.ensures, before, later)
+    omega (arith, c.earlier-end.ensures, before, later)
 
 visits_in_turn-requires : tie.Need-visits_in_turn-calls-requires invariant-loop decreases-loop
 visits_in_turn-requires c κs =
-    let v = c.loop in
+    let v = c.loop-first in
     let a = c.args in
     let pre = c.requires in
     let f = few a.p.time pre.0 pre.5 in
     let sqrt_pos : 1 ≤ a.sqrt = omega (arith, pre.4, (sqrt_range pre.0).0) in
-    let before : v.first < a.lanes.rows * a.p.time = c.loop-test.true in
-    let some : c.earlier.result - v.first ≤ 4177920 = omega (arith, c.earlier.ensures, f.visits) in (
+    let before : v.first < a.lanes.rows * a.p.time = c.loop-first-test.true in
+    let some : c.earlier-end.result - v.first ≤ 4177920 = omega (arith, c.earlier-end.ensures, f.visits) in (
       rw v.invariant.6 pre.0,
       v.invariant.4 ∙ pre.1,
       v.invariant.5 ∙ pre.2,
       v.invariant.7,
       omega (arith, v.invariant.1, visit_least a.sqrt sqrt_pos v.t, before, f.visits),
-      omega (arith, calls_most a.lanes.lanes (c.earlier.result - v.first) a.p.columns f.lanes some pre.0.columns_most),
+      omega (arith, calls_most a.lanes.lanes (c.earlier-end.result - v.first) a.p.columns f.lanes some pre.0.columns_most),
     )
 
 add-calls : tie.Need-overflow_add-calls invariant-loop decreases-loop
 add-calls c =
-    let v = c.loop in
+    let v = c.loop-first in
     let a = c.args in
     let pre = c.requires in
     let visits = a.lanes.rows * a.p.time in
     let f = few a.p.time pre.0 pre.5 in
     let sqrt_pos : 1 ≤ a.sqrt = omega (arith, pre.4, (sqrt_range pre.0).0) in
     let later : v.first < v.next = omega (arith, v.invariant.1, v.invariant.2, visit_steps a.sqrt sqrt_pos v.t) in
-    let total : v.calls + c.visits_in_turn.result ≡ a.lanes.lanes * (min v.next visits * a.p.columns) =
-    added a.lanes.lanes a.p.columns v.first v.next visits v.calls _ _ c.loop-test.true later v.invariant.3 c.earlier.ensures c.visits_in_turn.ensures.0 in
+    let total : v.calls + c.visits_in_turn-calls.result ≡ a.lanes.lanes * (min v.next visits * a.p.columns) =
+    added a.lanes.lanes a.p.columns v.first v.next visits v.calls _ _ c.loop-first-test.true later v.invariant.3 c.earlier-end.ensures c.visits_in_turn-calls.ensures.0 in
     let some : min v.next visits ≤ 4177920 = omega (arith, f.visits) in
     omega (arith, total, calls_most a.lanes.lanes (min v.next visits) a.p.columns f.lanes some pre.0.columns_most)
 
 add-next-2 : tie.Need-overflow_add-next-in-loop-first invariant-loop decreases-loop
 add-next-2 c =
-    let v = c.loop in
+    let v = c.loop-first in
     let a = c.args in
     let pre = c.requires in
     let sqrt_pos : 1 ≤ a.sqrt = omega (arith, pre.4, (sqrt_range pre.0).0) in
-    let before : v.first < a.lanes.rows * a.p.time = c.loop-test.true in
+    let before : v.first < a.lanes.rows * a.p.time = c.loop-first-test.true in
     omega (arith, pre.4, (sqrt_range pre.0).1, v.invariant.1, v.invariant.2, before, (few a.p.time pre.0 pre.5).visits, (visit_steps a.sqrt sqrt_pos v.t).1)
 
 loop-less : tie.Need-loop-first-smaller invariant-loop decreases-loop
 loop-less c =
-    let v = c.loop in
+    let v = c.loop-first in
     let a = c.args in
     let pre = c.requires in
     let sqrt_pos : 1 ≤ a.sqrt = omega (arith, pre.4, (sqrt_range pre.0).0) in
-    let before : v.first < a.lanes.rows * a.p.time = c.loop-test.true in
+    let before : v.first < a.lanes.rows * a.p.time = c.loop-first-test.true in
     omega (arith, v.invariant.1, v.invariant.2, before, (visit_steps a.sqrt sqrt_pos v.t).0)
 
 loop-again : tie.Need-loop-first-preserved invariant-loop decreases-loop
 loop-again c =
-    let v = c.loop in
+    let v = c.loop-first in
     let a = c.args in
     let pre = c.requires in
     let visits = a.lanes.rows * a.p.time in
     let S = settings a.p in
     let sqrt_pos : 1 ≤ a.sqrt = omega (arith, pre.4, (sqrt_range pre.0).0) in
-    let before : v.first < visits = c.loop-test.true in
+    let before : v.first < visits = c.loop-first-test.true in
     let later : v.first < v.next = omega (arith, v.invariant.1, v.invariant.2, visit_steps a.sqrt sqrt_pos v.t) in
-    let visited = c.visits_in_turn in
-    let count : c.earlier.result - v.first ≡ visits_in S a.lanes.rows v.t =
-    ap₂ (λ (x y : ℕ). x - y) (c.earlier.ensures ∙ ap (λ (n : ℕ). min n visits) (v.invariant.2 ∙ ap (λ (q : ℕ). first_visit q (suc v.t)) pre.4)) (v.invariant.1 ∙ ap (λ (q : ℕ). first_visit q v.t) pre.4) in (
+    let visited = c.visits_in_turn-calls in
+    let count : c.earlier-end.result - v.first ≡ visits_in S a.lanes.rows v.t =
+    ap₂ (λ (x y : ℕ). x - y) (c.earlier-end.ensures ∙ ap (λ (n : ℕ). min n visits) (v.invariant.2 ∙ ap (λ (q : ℕ). first_visit q (suc v.t)) pre.4)) (v.invariant.1 ∙ ap (λ (q : ℕ). first_visit q v.t) pre.4) in (
       omega (arith, v.invariant.1, visit_least a.sqrt sqrt_pos v.t, before),
       v.invariant.2 ∙ ap (first_visit a.sqrt) (sym (add-one v.t)),
       ap (λ (n : ℕ). n + a.sqrt) v.invariant.2 ∙ sym (visit_next a.sqrt v.t) ∙ ap (λ (n : ℕ). first_visit a.sqrt (suc n)) (sym (add-one v.t)),
-      added a.lanes.lanes a.p.columns v.first v.next visits v.calls _ _ before later v.invariant.3 c.earlier.ensures visited.ensures.0,
-      visited.auto.0 ∙ v.invariant.4,
-      visited.auto.1.0 ∙ v.invariant.5,
-      visited.auto.1.1.0 ∙ v.invariant.6,
+      added a.lanes.lanes a.p.columns v.first v.next visits v.calls _ _ before later v.invariant.3 c.earlier-end.ensures visited.ensures.0,
+      visited.auto.states ∙ v.invariant.4,
+      visited.auto.prevs ∙ v.invariant.5,
+      visited.auto.m ∙ v.invariant.6,
       visited.ensures.1,
       loop_more _ _ _ _ _ v.invariant.8 (visited.ensures.2 ∙ ap (λ (n : ℕ). visits_in_turn S a.lanes.lanes a.lanes.rows v.t n (lanes (works v.states v.m) v.prevs)) count),
     )
@@ -126,7 +126,7 @@ loop-again c =
 returns : tie.Need-returns invariant-loop decreases-loop
 unfolding wander_lanes
 returns c =
-    let v = c.loop in
+    let v = c.loop-first in
     let a = c.args in
     let pre = c.requires in
     let visits = a.lanes.rows * a.p.time in
@@ -141,5 +141,5 @@ returns c =
 pub wander_lanes_spec : {M : Type 1} → statement M
 wander_lanes_spec =
     tie.close
-    (tie.spec invariant-loop decreases-loop mul-visits add-next loop-holds (λ c κs. tt) sub-visits_in_turn visits_in_turn-requires add-calls add-next-2 (λ c. omega (arith, c.loop.invariant.0, (few c.args.p.time c.requires.0 c.requires.5).visits)) loop-less loop-again
-    (λ c. c.loop.invariant.4) (λ c. c.loop.invariant.5) (λ c. c.loop.invariant.6) returns)
+    (tie.spec invariant-loop decreases-loop mul-visits add-next loop-holds (λ c κs. tt) sub-visits_in_turn visits_in_turn-requires add-calls add-next-2 (λ c. omega (arith, c.loop-first.invariant.0, (few c.args.p.time c.requires.0 c.requires.5).visits)) loop-less loop-again
+    (λ c. c.loop-first.invariant.4) (λ c. c.loop-first.invariant.5) (λ c. c.loop-first.invariant.6) returns)

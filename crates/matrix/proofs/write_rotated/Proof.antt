@@ -15,14 +15,13 @@ use Rattle.matrix.proofs.write_rotated.Tie as tie
 returns : tie.Need-returns
 unfolding cell_from
 returns c =
-    let start = c in
-    let a = start.args in
+    let a = c.args in
     let s = a.s.now in
     let out = c.output-rand.ensures in
     let turned = c.xor_rotated.ensures in
     let words = c.xored-words.ensures ∙ (λ i. xor_into (take (add-sub_cancel_left a.from 12 i) (drop a.from (turned i))) (out i)) in
     c.put_cell.ensures ∙ (λ i. zip_at (λ (x y : ℕ). y) a.to (turned i) (words i))
-    ∙ either_order a.from a.to a.back a.m.now (rand s) (rotated a.omega (rand s)) (length-rand s) (length-rotated a.omega (rand s)) start.requires.1
+    ∙ either_order a.from a.to a.back a.m.now (rand s) (rotated a.omega (rand s)) (length-rand s) (length-rotated a.omega (rand s)) c.requires.1
 
 pub write_rotated_spec : {M : Type 1} → statement M
 write_rotated_spec =

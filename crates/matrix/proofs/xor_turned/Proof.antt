@@ -15,5 +15,5 @@ xor_turned_spec =
     (tie.spec (λ m₀ a words by j₀ m j. Placed bit_xor a m₀ (rotated by words) m j 12) (λ m₀ a words by j₀ m j. 12 - j)
     (λ c. placed_none bit_xor (length-rotated _ _)) (omega arith) (omega arith) (omega arith) (omega arith) (omega arith)
     (omega arith) (omega arith) (omega arith) (omega arith) (omega arith) (omega arith)
-    (λ c. placed_again bit_xor c.before.before.before.loop-j.invariant (omega arith) (omega arith) (sym (get_or-rotated _ _ _ (omega arith))))
-    (λ c. c.before.loop-j.invariant.long) (λ c. placed_end bit_xor c.before.loop-j.invariant (omega arith)))
+    (λ c. placed_again bit_xor c.loop-j.invariant (omega arith) (omega arith) (sym (get_or-rotated _ _ _ (omega arith))))
+    (λ c. c.loop-j.invariant.long) (λ c. placed_end bit_xor c.loop-j.invariant (omega arith)))

@@ -9,6 +9,5 @@ half_g_spec =
     tie.close
     (tie.spec (omega arith) (omega arith) (omega arith) (omega arith)
     (λ c.
-    let third = c.before.before in
-    half_g_steps _ _ _ _ _ _ _ _ third.before.before.before.add-a.ensures third.before.turn_right-d.ensures
-    third.add-c.ensures c.turn_right-b.ensures))
+    half_g_steps _ _ _ _ _ _ _ _ c.add-a.ensures c.turn_right-d.ensures
+    c.add-c.ensures c.turn_right-b.ensures))

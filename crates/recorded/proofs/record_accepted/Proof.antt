@@ -9,28 +9,28 @@ use Rattle.recorded.proofs.record_accepted.Tie as tie
 
 returns : tie.Need-returns
 returns c =
-    let start = c.before.before.before.before.before.before.before.before.before.before.before.before.before.before.before.before.before.before.before.before.before.before.before.before in
+    let start = c in
     let none = start.requires in
-    let run = c.before.before.before.before.before.before.before.before.before.before.before.before.before.before.before.run.ensures in
-    let last = c.before.before.before.before.before.before.before.before.finish.ensures in
-    let key = c.before.before.before.before.before.squeeze.ensures in
+    let run = c.run-ran.ensures in
+    let last = c.finish-full.ensures in
+    let key = c.squeeze-between.ensures in
     record {
-      answer = cost_yes _ _ none (costs_after _ _ _ (recorded_accepted _ _ _ _ none) (full_with_last run last.0) (c.before.clear-run.ensures.0 ∙ key.2) run.reduced c.spent.ensures);
+      answer = cost_yes _ _ none (costs_after _ _ _ (recorded_accepted _ _ _ _ none) (full_with_last run last.0) (c.clear_run-calls.ensures.0 ∙ key.2) run.reduced c.spent-costs.ensures);
       state_is = answered-yes _ _ none (state_after run);
       key_after = answered-yes _ _ none (key.0 ∙ key_after start.args.p _ _ (finished run last.1));
       matrix_after = answered-yes _ _ none (matrix_after run);
       visited_after = answered-yes _ _ none run.noted;
     }
 
-pub record-accepted-spec : {M : Type 1} → statement M
-record-accepted-spec =
+pub record_accepted_spec : {M : Type 1} → statement M
+record_accepted_spec =
     tie.close
-    (tie.spec (λ c κs. recorded_accepted _ _ _ _ c.before.before.before.before.before.before.before.before.requires)
-    (λ c κs. can_finish c.before.before.before.before.before.before.run.ensures (recorded_accepted _ _ _ _ c.before.before.before.before.before.before.before.before.before.before.before.before.before.before.before.requires) (omega (arith, c.before.before.before.before.before.before.run.auto))) (omega arith) (omega arith)
+    (tie.spec (λ c κs. recorded_accepted _ _ _ _ c.requires)
+    (λ c κs. can_finish c.run-ran.ensures (recorded_accepted _ _ _ _ c.requires) (omega (arith, c.run-ran.auto))) (omega arith) (omega arith)
     (λ c.
-    let run = c.before.before.before.before.before.before.before.before.before.before.before.before.before.before.run.ensures in
-    omega (arith, counts_fit _ _ _ (recorded_accepted _ _ _ _ c.before.before.before.before.before.before.before.before.before.before.before.before.before.before.before.before.before.before.before.before.before.before.before.requires) (full_with_last run c.before.before.before.before.before.before.before.finish.ensures.0) (c.clear-run.ensures.0 ∙ c.before.before.before.before.squeeze.ensures.2) run.reduced))
+    let run = c.run-ran.ensures in
+    omega (arith, counts_fit _ _ _ (recorded_accepted _ _ _ _ c.requires) (full_with_last run c.finish-full.ensures.0) (c.clear_run-calls.ensures.0 ∙ c.squeeze-between.ensures.2) run.reduced))
     (λ c κs.
-    let run = c.before.before.before.before.before.before.before.before.before.before.before.before.before.before.run.ensures in
-    omega (arith, counts_fit _ _ _ (recorded_accepted _ _ _ _ c.before.before.before.before.before.before.before.before.before.before.before.before.before.before.before.before.before.before.before.before.before.before.before.requires) (full_with_last run c.before.before.before.before.before.before.before.finish.ensures.0) (c.clear-run.ensures.0 ∙ c.before.before.before.before.squeeze.ensures.2) run.reduced))
+    let run = c.run-ran.ensures in
+    omega (arith, counts_fit _ _ _ (recorded_accepted _ _ _ _ c.requires) (full_with_last run c.finish-full.ensures.0) (c.clear_run-calls.ensures.0 ∙ c.squeeze-between.ensures.2) run.reduced))
     (omega arith) (omega arith) (omega arith) returns)

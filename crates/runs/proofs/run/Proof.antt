@@ -43,17 +43,17 @@ few l p m h =
       calls = le_trans (mul-le-mul n c) (omega arith);
     }
 
-wander-requires : tie.Need-wander-requires
+wander-requires : tie.Need-wander-v-requires
 unfolding plain_checks cost_checks
 wander-requires c κs =
-    let start = c.before.before.before.before.before.before.before.before.before.before.before.before.before.before.before.before.before.before in
-    let up = c.before.before.before.before.before.before.before.before.set-up in
+    let start = c in
+    let up = c.set_up-set in
     let f = few _ start.args.p _ start.requires in (
       record {
         packable = omega (arith, start.requires);
         prev0_lt = omega (arith, start.requires);
         prev1_lt = rw up.ensures.0 (omega (arith, start.requires, prev1_lt (start.args.p.rows - 3)));
-        room = omega (arith, up.auto.1.0, start.requires);
+        room = omega (arith, up.auto.m, start.requires);
       },
       omega (arith, f.words),
       omega (arith, f.calls),
@@ -62,13 +62,13 @@ wander-requires c κs =
 returns : tie.Need-returns
 unfolding walk_end end_record input_state setup_end
 returns c =
-    let a = c.before.before.before.before.before.before.before.before.before.before.before.before.before.before.before.before.before.before.before.before.before.before.before.before.before.before.before.args in
+    let a = c.args in
     let S = settings a.p in
-    let x = input a.password.now a.salt.now a.key-length in
-    let i = c.before.before.before.before.before.before.before.before.before.before.before.before.before.before.before.before.before.before.before.before.absorb-input.ensures in
-    let up = c.before.before.before.before.before.before.before.before.before.before.before.before.before.before.before.before.before.set-up.ensures in
-    let v = c.before.before.before.before.before.before.before.before.wander.ensures in
-    let from = i.0 ∙ ap (absorb_input (sum_of a.p.mixer) x.password x.salt (numbers x S)) c.before.before.before.before.before.before.before.before.before.before.before.before.before.before.before.before.before.before.before.before.before.before.start.ensures in
+    let x = input a.password.now a.salt.now a.key_length in
+    let i = c.absorb_input-full.ensures in
+    let up = c.set_up-set.ensures in
+    let v = c.wander-v.ensures in
+    let from = i.0 ∙ ap (absorb_input (sum_of a.p.mixer) x.password x.salt (numbers x S)) c.start.ensures in
     let e =
     ap₂ (λ (w : Work) (o : Order). walk w (a.p.rows - 1) o.prev1) (up.2 ∙ ap (λ (s : List ℕ). setup S (work s a.m.now)) from) up.0 in
     record {
@@ -84,8 +84,8 @@ pub run_spec : {M : Type 1} → statement M
 unfolding plain_checks cost_checks
 run_spec =
     tie.close
-    (tie.spec (omega arith) (omega arith) (omega arith) (λ c. omega (arith, c.before.before.before.before.before.before.before.before.before.before.before.before.before.before.before.before.requires)) (λ c. omega (arith, (few _ c.before.before.before.before.before.before.before.before.before.before.before.before.before.before.before.before.before.args.p _ c.before.before.before.before.before.before.before.before.before.before.before.before.before.before.before.before.before.requires).visits)) wander-requires
+    (tie.spec (omega arith) (omega arith) (omega arith) (λ c. omega (arith, c.requires)) (λ c. omega (arith, (few _ c.args.p _ c.requires).visits)) wander-requires
     (λ c.
-    let f = few _ c.before.before.before.before.before.before.before.before.before.before.before.before.before.before.before.before.before.before.before.before.before.before.before.before.before.before.before.args.p _ c.before.before.before.before.before.before.before.before.before.before.before.before.before.before.before.before.before.before.before.before.before.before.before.before.before.before.before.requires in
-    omega (arith, f.cells, f.calls, c.before.before.before.before.before.before.before.before.before.before.before.before.before.before.before.before.before.set-up.ensures.1, c.before.before.before.before.before.before.before.before.wander.ensures.counted))
+    let f = few _ c.args.p _ c.requires in
+    omega (arith, f.cells, f.calls, c.set_up-set.ensures.1, c.wander-v.ensures.counted))
     (omega arith) (omega arith) returns)

@@ -25,30 +25,28 @@ note-requires c κs =
 visit_row-requires : tie.Need-visit_row-calls-requires
 unfolding picked_rows
 visit_row-requires c κs =
-    let start = c in
     let r = c.pick_rows-r in (
-      start.requires.0.packable,
-      within start.args.p.rows start.args.p.columns (length start.args.m.now) start.requires.0.room r.result r.ensures.0 r.ensures.1
-          (omega (arith, start.requires.0.prev0_lt, ap (λ (q : Rows). q.prev0.0) r.ensures.2)) (omega (arith, start.requires.0.prev1_lt, ap (λ (q : Rows). q.prev1.0) r.ensures.2)),
+      c.requires.0.packable,
+      within c.args.p.rows c.args.p.columns (length c.args.m.now) c.requires.0.room r.result r.ensures.0 r.ensures.1
+          (omega (arith, c.requires.0.prev0_lt, ap (λ (q : Rows). q.prev0.0) r.ensures.2)) (omega (arith, c.requires.0.prev1_lt, ap (λ (q : Rows). q.prev1.0) r.ensures.2)),
       omega arith,
     )
 
 returns : tie.Need-returns
 unfolding picked_rows
 returns c =
-    let start = c in
     let r = c.pick_rows-r in
     let row = c.visit_row-calls in
     let noted = c.note in
-    let w = walk (work start.args.s.now start.args.m.now) start.args.prev0.0 start.args.prev1.0 in
-    let rows-noted : _ ≡ set start.args.«record».now start.args.at (packed r.result.row0.0 r.result.row1.0) = noted.ensures in
+    let w = walk (work c.args.s.now c.args.m.now) c.args.prev0.0 c.args.prev1.0 in
+    let rows-noted : _ ≡ set c.args.«record».now c.args.at (packed r.result.row0.0 r.result.row1.0) = noted.ensures in
     record {
       counted = row.ensures.0;
       prev0_lt = r.ensures.0;
       prev1_lt = r.ensures.1;
-      walked = visit-done (settings start.args.p) w r.result r.ensures.2 _ row.ensures.1;
-      noted = visit_noted (settings start.args.p) w r.result r.ensures.2 start.args.at start.args.«record».now _
-          (row.ensures.2 ∙ ap (λ (l : List ℕ). zip_at (λ x y. y) (start.args.at + 1) l (encode_picks (column_picks (settings start.args.p) r.result start.args.p.columns w.done))) rows-noted);
+      walked = visit-done (settings c.args.p) w r.result r.ensures.2 _ row.ensures.1;
+      noted = visit_noted (settings c.args.p) w r.result r.ensures.2 c.args.at c.args.«record».now _
+          (row.ensures.2 ∙ ap (λ (l : List ℕ). zip_at (λ x y. y) (c.args.at + 1) l (encode_picks (column_picks (settings c.args.p) r.result c.args.p.columns w.done))) rows-noted);
     }
 
 pub visit_spec : {M : Type 1} → statement M

@@ -108,5 +108,5 @@ wander_spec =
     omega (arith, v.invariant.4, start.requires.1, row_before v.k start.args.n (visit_words (settings start.args.p)) c.loop-k-test.true))
     (λ c. omega (arith, c.loop-k-test.true, c.ranges))
     (λ c. omega (arith, c.loop-k-test.true)) loop-again
-    (λ c. c.loop-k.invariant.5 ∙ c.visit-first.auto.1.0)
-    (λ c. c.loop-k.invariant.6 ∙ c.visit-first.auto.1.1.1.1.1.0) returns-2)
+    (λ c. c.loop-k.invariant.5 ∙ c.visit-first.auto.m)
+    (λ c. c.loop-k.invariant.6 ∙ c.visit-first.auto.«record») returns-2)

@@ -1,5 +1,6 @@
 // The plain derivation.
 #![tactic(auto)]
+
 ghost use Rattle.std.specs.Prelude.{◌≡◌, length};
 ghost use Rattle.input.specs.Input.{input};
 ghost use Rattle.derivation.specs.Promises.{plain_number, Derived};
