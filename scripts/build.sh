@@ -14,14 +14,14 @@ say() { # WORDS
     echo "$1" >&2 || true
 }
 
-# Runs a command at the root; what it prints goes to a log and to a function that says how far it is. Standard input stays
+# Runs a command that needs another at the root; what it prints goes to a log and to a function that says how far it is. Standard input stays
 # the program's, since it may be a password.
-build() { # FUNCTION COMMAND..
+build() { # FUNCTION NEEDED COMMAND..
     local status
     command -v "$2" >/dev/null 2>&1 || { say "$2 is missing: docs/DEPENDENCIES.md says what a build needs"; exit 2; }
     build_log=$(mktemp) || exit 2
     trap 'rm -f "$build_log"' EXIT
-    (cd "$root" && "${@:2}") 2>&1 </dev/null | tee "$build_log" | "$1"
+    (cd "$root" && "${@:3}") 2>&1 </dev/null | tee "$build_log" | "$1"
     status=${PIPESTATUS[0]}
     [ "$status" -eq 0 ] || cat "$build_log" >&2
     rm -f "$build_log"
@@ -38,25 +38,25 @@ crates_under() { # NAME
             n = split(rests_on[name], below, " ")
             for (i = 1; i <= n; i++) visit(below[i])
         }
-        { sub(/#.*/, "") }
+        { sub(/#.*/, ""); sub(/ staticlib:/, ":") }
         /:/ { name = $1; sub(/:.*/, "", name); sub(/^[^:]*:/, ""); rests_on[name] = $0 }
         END { visit(top); print count + 0 }' "$root/crates.txt"
 }
 
-# Of what `rt staticlib` prints: a line for each crate once it is proved, and one for the last, with the archive. A crate
-# that was proved before is counted and not told.
+# Of what `rt lib` prints: a line for each crate once it is proved. A crate that was proved before is not told.
 tell_proofs() {
-    local line due proved=0
+    local line due name='' proved=0
     due=$(crates_under derivation_export)
     while IFS= read -r line; do
         case $line in
-        'rt: '*' proved (unchanged '*) proved=$((proved + 1)) ;;
-        'rt: '*' proved ('*' s)')
-            proved=$((proved + 1))
-            line=${line#rt: }
-            say "proved $proved of $due: ${line%% *}"
+        'crate '*': modules '*)
+            name=${line#crate }
+            name=${name%%:*}
             ;;
-        'rt: target/staticlib/'*) say "proved $due of $due: derivation_export" ;;
+        'logic=proved '*)
+            proved=$((proved + 1))
+            say "proved $proved of at most $due: $name"
+            ;;
         esac
     done
 }
@@ -81,10 +81,10 @@ tell_compiling() {
 build_library() {
     [ ! -e "$archive" ] || [ -n "$(find "$root"/crates/*/src "$root/crates.txt" -newer "$archive" -print -quit)" ] || return 0
     say "proving the library, $(crates_under derivation_export) crates; this takes some minutes and is done once"
-    build tell_proofs rt staticlib derivation_export
+    build tell_proofs rt "$root/scripts/library.sh" derivation_export
 }
 
 # cargo sees for itself what has changed.
 build_program() {
-    CARGO_TERM_COLOR=never build tell_compiling "$root/scripts/cargo.sh" build --release --package lyra2-cli --target-dir "$root/rust/target"
+    CARGO_TERM_COLOR=never build tell_compiling cargo "$root/scripts/cargo.sh" build --release --package lyra2-cli --target-dir "$root/rust/target"
 }

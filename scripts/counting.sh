@@ -42,14 +42,15 @@ require_names() { # WHAT LISTED FOUND
 
 # The names of crates.txt.
 crate_names() {
-    sed -n 's/^\([a-z0-9_]*\):.*/\1/p' crates.txt
+    sed -n 's/^\([a-z0-9_]*\)\( staticlib\)\?:.*/\1/p' crates.txt
 }
 
-# The proofs: `rt ci` printed its count, proved each crate of crates.txt from nothing and refused each edit, and the count
-# has them all. The crates that carry the promises are named, since crates.txt may lose a line.
+# The proofs: `rt ci` printed its count, proved each crate of crates.txt, in this run or in an earlier one of the same files on this
+# machine, and refused each edit; none is bad, and the count has them all. The crates that carry the promises are named, since
+# crates.txt may lose a line.
 count_proofs() { # STATUS LOG CARRYING
-    local n m tally name edit due=0
-    tally=$(grep -E '^[0-9]+ passed, [0-9]+ failed$' "$2" | tail -n 1)
+    local n m tally name edit due=0 edits=0
+    tally=$(grep -aE '^[0-9]+ passed, [0-9]+ failed$' "$2" | tail -n 1)
     [ -n "$tally" ] || { fail "rt ci printed no count"; return; }
     read -r n _ m _ <<<"$tally"
     passed=$((passed + n))
@@ -60,16 +61,21 @@ count_proofs() { # STATUS LOG CARRYING
     done
     for name in $(crate_names); do
         due=$((due + 1))
-        grep -qE "^rt: $name proved \([0-9]+ s\)\$" "$2" || fail "rt ci did not prove $name"
+        grep -qaE "^rt: $name (proved\$|is kept: )" "$2" || fail "rt ci did not prove $name"
     done
-    for edit in crates/*/must-fail/*.edit; do
+    for edit in crates/*/must-fail/*; do
         [ -e "$edit" ] || { fail "there is no must-fail edit"; break; }
-        due=$((due + 1))
+        edits=$((edits + 1))
         name=${edit#crates/}
-        name=${name%%/*}/$(basename "$edit" .edit)
-        grep -qF "rt: must-fail $name: refused, as it must be" "$2" || fail "rt ci did not refuse $name"
+        name=${name%%/*}/$(basename "$edit")
+        grep -qaF "rt: must-fail $name: refused, as it must be" "$2" || fail "rt ci did not refuse $name"
     done
+    due=$((due + edits))
     [ $((n + m)) -ge "$due" ] || fail "rt ci counted $((n + m)), and $due crates and edits are there"
+    if [ "$m" -eq 0 ]; then
+        grep -qaE "^rt: ok; .*; must-fail edits: $edits refused" "$2" || fail "rt ci did not say that $edits edits were refused"
+    fi
+    ! grep -qaE '^rt: ok; .*, [0-9]+ bad' "$2" || fail "rt ci called edits bad"
 }
 
 # Rust's tests: each package that is named has tests, each test of the sources has run, and none was ignored or left out.

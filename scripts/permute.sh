@@ -4,7 +4,7 @@ set -eu
 cd "$(dirname "$0")/.."
 log=$(mktemp)
 trap 'rm -f "$log"' EXIT
-if ! rt check permute >"$log" 2>&1; then
+if ! scripts/program.sh permute >"$log" 2>&1; then
     cat "$log" >&2
     exit 1
 fi

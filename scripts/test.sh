@@ -47,16 +47,14 @@ has_passed() { # SCRIPT
     [ "$(cat "$work/$1.status")" = 0 ]
 }
 
-# ---- the proofs, two for each processor at a time: rt waits for the slowest of those that it has begun
-export RT_JOBS=${RT_JOBS:-$((2 * $(nproc)))}
+# ---- the proofs, the must-fail edits, the programs and the layout of the Rattle and antt files
 run "$log" rt ci
 count_proofs $? "$log" "$crates"
-step "the layout of the Rattle and antt files" rt fmt --check
 
 # ---- Rust's tests, over the static libraries
 require_names "static libraries" "$libraries" "$(crate_names | grep '_export$')"
 for library in $libraries; do
-    step "static library $library" rt staticlib "$library"
+    step "static library $library" scripts/library.sh "$library"
 done
 step "the layout of the Rust files" cargo fmt --all --check --manifest-path rust/Cargo.toml
 run_scripts &

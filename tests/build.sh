@@ -13,8 +13,8 @@ same() { # WHAT EXPECTED FOUND
 # ---- a repository of five crates, of which the library has four; io is a library of the kit
 copy="$work/a repository"
 mkdir -p "$work/bin" "$work/logs" "$copy/scripts" "$copy"/crates/{ground,left,right,derivation_export,other}/src
-cp "$root"/scripts/{build,cargo,derive,needed}.sh "$copy/scripts"
-printf '# crates\nground:\nleft: io ground # a remark\nright: ground\nderivation_export: left right ground\nother: ground\n' >"$copy/crates.txt"
+cp "$root"/scripts/{build,cargo,derive,library,needed}.sh "$copy/scripts"
+printf '# crates\nground:\nleft: io ground # a remark\nright: ground\nderivation_export staticlib: left right ground\nother: ground\n' >"$copy/crates.txt"
 
 export TMPDIR=$work/logs
 
@@ -26,8 +26,8 @@ echo "rt $*" >>"$here/called"
 [ -z "$(cat)" ] || echo 'rt has read the standard input' >>"$here/called"
 cat "$here/proofs" >&2
 [ "$(cat "$here/rt-status")" = 0 ] || exit "$(cat "$here/rt-status")"
-mkdir -p target/staticlib && : >target/staticlib/libderivation_export.a
-echo 'rt: target/staticlib/libderivation_export.a has the functions of derivation_export that are marked #[no_mangle] pub extern "C"'
+mkdir -p out && : >out/libderivation_export.a
+printf 'crate derivation_export: modules loaded=3 checked=0\nlogic=proved functions=2 target=x86_64-unknown-linux-gnu\n'
 END
 cat >"$work/bin/cargo" <<'END'
 #!/bin/sh
@@ -44,11 +44,15 @@ exit "$(cat "$here/cargo-status")"
 END
 chmod +x "$work/bin/rt" "$work/bin/cargo"
 
-proved='fn ground::f: proved
-rt: ground proved (3 s)
-logic=proved
-rt: left proved (12 s)
-rt: right proved (1 s)'
+# What `rt lib` prints of a crate that it proves.
+told() { # NAME..
+    local name
+    for name in "$@"; do
+        printf 'rt: chose --jobs 2 for %s\nfn %s::f: proved\nlibrary ground: modules loaded=1 checked=0\n' "$name" "$name"
+        printf 'crate %s: modules loaded=0 checked=3\nlogic=proved functions=1 sum=0\n' "$name"
+    done
+}
+proved=$(told ground left right)
 compiled='   Compiling zeroize v1.5.7
    Compiling lyra2-cli v0.1.0 (/a/folder)'
 one_line='building the program, which takes about a minute the first time'
@@ -73,12 +77,12 @@ echo 0 >"$work/cargo-status"
 derive "$proved" "$compiled"
 program_has_run
 same 'the first build' "proving the library, 4 crates; this takes some minutes and is done once
-proved 1 of 4: ground
-proved 2 of 4: left
-proved 3 of 4: right
-proved 4 of 4: derivation_export
+proved 1 of at most 4: ground
+proved 2 of at most 4: left
+proved 3 of at most 4: right
+proved 4 of at most 4: derivation_export
 $one_line" "$(cat "$work/said")"
-same 'what was called for' 'rt staticlib derivation_export' "$(cat "$work/called")"
+same 'what was called for' 'rt lib' "$(cat "$work/called")"
 
 for line in '' '    Blocking waiting for file lock on package cache'; do
     derive "$proved" "$line"
@@ -91,13 +95,11 @@ program_has_run
 same 'the program alone' "$one_line" "$(cat "$work/said" "$work/called")"
 
 touch -d '1 minute' "$copy/crates/left/src/lib.rt"
-derive 'rt: ground proved (unchanged since it was last proved)
-rt: left proved (12 s)
-rt: right proved (unchanged since it was last proved)' ''
+derive "$(told left)" ''
 program_has_run
 same 'a crate that has changed' "proving the library, 4 crates; this takes some minutes and is done once
-proved 2 of 4: left
-proved 4 of 4: derivation_export" "$(cat "$work/said")"
+proved 1 of at most 4: left
+proved 2 of at most 4: derivation_export" "$(cat "$work/said")"
 rm "$copy/crates/left/src/lib.rt"
 touch -d '1 minute' "$copy/target/staticlib/libderivation_export.a"
 
@@ -115,14 +117,13 @@ fails() { # WHAT LOG
     [[ $(cat "$work/said") == *"$2" ]] || { cat "$work/said"; echo "$1 does not show its log"; exit 1; }
 }
 rm "$copy/target/staticlib/libderivation_export.a"
-refused='fn ground::f: proved
-rt: ground proved (3 s)
+refused="$(told ground)
 what left ensures does not hold
-rt: left NOT PROVED (exit 1, 2 s)
-rt: FAILED: left'
+fn left::f: not proved
+logic=not-proved"
 echo 1 >"$work/rt-status"
 derive "$refused" "$compiled"
-fails 'a refused proof' "proved 1 of 4: ground
+fails 'a refused proof' "proved 1 of at most 4: ground
 $refused"
 echo 0 >"$work/rt-status"
 echo 101 >"$work/cargo-status"
@@ -137,7 +138,7 @@ echo 0 >"$work/cargo-status"
 
 # ---- no rt, no cargo: a PATH with what the scripts themselves use
 mkdir "$work/few"
-for command in awk bash cat dirname dpkg-query env find grep mktemp rm sed tee; do
+for command in awk bash cat cp dirname dpkg-query env find grep mkdir mktemp rm sed tee; do
     path=$(command -v "$command") || continue
     ln -s "$path" "$work/few/$command"
 done

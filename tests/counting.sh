@@ -12,16 +12,16 @@ make_up() {
     rm -rf "$work/repository"
     mkdir -p "$work/repository"/{crates/one/must-fail,crates/two_export,rust/first/tests,rust/second/src}
     cd "$work/repository"
-    printf '# crates\none:\ntwo_export: one\n' >crates.txt
+    printf '# crates\none:\ntwo_export staticlib: one\n' >crates.txt
     printf 'An edit.\n' >crates/one/must-fail/wrong.edit
     printf '#[test]\nfn a() {}\n#[test]\nfn b() {}\n' >rust/first/tests/it.rs
     printf 'mod tests {\n    #[test]\n    fn c() {}\n}\n' >rust/second/src/lib.rs
     cat >rt.log <<'END'
-rt: one proved (5 s)
+rt: one is kept: an earlier run on this machine proved the same files over the same libraries
 fn two_export::f: proved
-rt: two_export proved (12 s)
-rt: must-fail one/wrong: refused, as it must be (first at src/lib.rt:1:1; 3 s)
-rt: ok, 2 crates
+rt: two_export proved
+rt: must-fail one/wrong.edit: refused, as it must be: src/lib.rt:1:1: it is not proved
+rt: ok; handles allowed: none; must-fail edits: 1 refused; every proof and must-fail edit was done in this run
 3 passed, 0 failed
 END
     cat >cargo.log <<'END'
@@ -65,17 +65,22 @@ count >out
 spoilt 'rt ci printed no count' ': >rt.log'
 spoilt 'rt ci printed no count' 'sed -i /passed,/d rt.log'
 spoilt 'rt ci ended with status 2' 'rt_status=2'
-spoilt 'rt ci did not prove one' 'sed -i "/one proved/d" rt.log'
-spoilt 'rt ci did not prove one' 'sed -i "s/one proved (5 s)/one proved (unchanged since it was last proved)/" rt.log'
-spoilt 'rt ci did not prove two_export' 'echo "rt: other proved (1 s)" >>rt.log; sed -i "/two_export proved/d" rt.log'
-spoilt 'rt ci did not refuse one/wrong' 'sed -i /must-fail/d rt.log'
-spoilt 'rt ci did not refuse one/wrong' 'sed -i "s/refused, as it must be/NOT REFUSED/" rt.log'
+spoilt 'rt ci did not prove one' 'sed -i "/one is kept/d" rt.log'
+spoilt 'rt ci did not prove one' 'sed -i "s/one is kept: .*/one NOT PROVED/" rt.log'
+spoilt 'rt ci did not prove two_export' 'echo "rt: other proved" >>rt.log; sed -i "/two_export proved/d" rt.log'
+spoilt 'rt ci did not refuse one/wrong.edit' 'sed -i "/must-fail one/d" rt.log'
+spoilt 'rt ci did not refuse one/wrong.edit' 'sed -i "s/refused, as it must be/NOT REFUSED/" rt.log'
+spoilt 'rt ci did not refuse one/wrong.edit' 'sed -i "s/refused, as it must be/BAD EDIT/" rt.log'
+spoilt 'rt ci called edits bad' 'sed -i "s/1 refused/1 refused, 1 bad/" rt.log'
+spoilt 'rt ci did not say that 1 edits were refused' 'sed -i "s/: 1 refused/: 0 refused/" rt.log'
+spoilt 'rt ci did not say that 1 edits were refused' 'sed -i "/^rt: ok/d" rt.log'
+spoilt 'rt ci did not refuse one/unread.md' 'touch crates/one/must-fail/unread.md'
 spoilt 'there is no must-fail edit' 'rm crates/one/must-fail/wrong.edit'
 spoilt 'crates.txt does not name one' 'sed -i /^one:/d crates.txt'
 spoilt 'crates.txt does not name one' ': >crates.txt'
 spoilt 'rt ci counted 0, and 3 crates and edits are there' 'sed -i "s/^3 passed/0 passed/" rt.log'
 spoilt 'libraries: ' 'libraries='
-spoilt 'libraries: ' 'sed -i /^two_export:/d crates.txt'
+spoilt 'libraries: ' 'sed -i /^two_export/d crates.txt'
 spoilt 'libraries: ' 'echo "three_export: one" >>crates.txt'
 spoilt 'a step' 'library_step=false'
 spoilt 'a step' 'library_step=no-such-command'

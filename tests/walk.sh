@@ -5,7 +5,7 @@ cd "$(dirname "$0")/.."
 work=$(mktemp -d)
 trap 'rm -rf "$work"' EXIT
 
-if ! rt check walk >"$work/log" 2>&1; then
+if ! scripts/program.sh walk >"$work/log" 2>&1; then
     cat "$work/log"
     exit 1
 fi

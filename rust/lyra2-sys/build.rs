@@ -1,4 +1,4 @@
-//! Links the static library that `rt staticlib derivation_export` writes.
+//! Links the static library that `scripts/library.sh derivation_export` makes.
 
 fn main() {
     link_staticlib::link("derivation_export");

@@ -1,4 +1,4 @@
-//! Links the static library that `rt staticlib sponge_export` writes.
+//! Links the static library that `scripts/library.sh sponge_export` makes.
 
 fn main() {
     link_staticlib::link("sponge_export");

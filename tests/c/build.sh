@@ -2,7 +2,7 @@
 # To be sourced at the root of the repository; leaves the folder $work for the objects and programs.
 
 library=target/staticlib/libderivation_export.a
-[ -e "$library" ] || { echo "$library is missing: run 'rt staticlib derivation_export' first"; exit 1; }
+[ -e "$library" ] || { echo "$library is missing: run 'scripts/library.sh derivation_export' first"; exit 1; }
 work=$(mktemp -d)
 trap 'rm -rf "$work"' EXIT
 flags=(-std=c99 -O2 -Wall -Wextra -pedantic -Werror -Iinclude)

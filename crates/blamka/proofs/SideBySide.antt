@@ -141,9 +141,9 @@ module _ (sum : ℕ → ℕ → ℕ) where
   abbrev second_half : Words → Words
   second_half = half_g sum 16 63
 
-  pub round-by_halves : (s : List ℕ) → length s ≡ 16
+  pub round_by_halves : (s : List ℕ) → length s ≡ 16
       → at_all second_half (at_all first_half (at_all second_half (at_all first_half s (take 4 quads)) (take 4 quads)) (drop 4 quads)) (drop 4 quads) ≡ round sum s
   unfolding round quads G
-  round-by_halves s long =
+  round_by_halves s long =
       ap (λ (t : List ℕ). at_all second_half (at_all first_half t (drop 4 quads)) (drop 4 quads)) (all_all first_half second_half (take 4 quads) columns_apart s long)
       ∙ all_all first_half second_half (drop 4 quads) diagonals_apart (at_all (G sum) s (take 4 quads)) (length_all (G sum) (take 4 quads) s ∙ long)

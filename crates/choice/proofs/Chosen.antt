@@ -104,14 +104,14 @@ module _ (l : Lengths) (g : Limits) where
     answer_is = answered_is _ _ number_is answer
 
     -- none that fits has more cells than the answer's and the reported number together, which are U
-    pub cells-and_shortfall : cells (shape_of r) + r.shortfall ≡ cell_limit l g
+    pub cells_and_shortfall : cells (shape_of r) + r.shortfall ≡ cell_limit l g
     unfolding chosen
-    cells-and_shortfall =
+    cells_and_shortfall =
         let most = (best_within l g number_is).cells_most in
         subst (λ (c : Choice). cells (shape_of c) + c.shortfall ≡ cell_limit l g) (sym answer_is) (omega (arith, most))
 
     pub shortfall_bounds : (T : ℕ) (s : Shape) → Fits l g T s → cells s ≤ cells (shape_of r) + r.shortfall
-    shortfall_bounds T s fits = subst (λ (n : ℕ). cells s ≤ n) (sym cells-and_shortfall) (fits_within_limit T s fits)
+    shortfall_bounds T s fits = subst (λ (n : ℕ). cells s ≤ n) (sym cells_and_shortfall) (fits_within_limit T s fits)
 
     -- the answer is accepted by the cost question, fits W, has T from 1 on and spends at most B
     pub answer_fits : Fits l g r.time (shape_of r)

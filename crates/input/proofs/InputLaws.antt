@@ -49,10 +49,10 @@ module _ {A : Addition} (u : Undoes A) (bytes bytes' : List ℕ) (h : AllBytes b
   up_to n before here i lt = below_more (λ j. block bytes j ≡ block bytes' j) n before here i (omega arith)
 
   -- at most block b is open: the blocks after it are undone, and the state before it tells it
-  pub absorb-blocks_inj : (b n : ℕ) → ((i : ℕ) → i < n → i ≢ b → block bytes i ≡ block bytes' i) → state n bytes ≡ state n bytes' → SameBlocks n bytes bytes'
+  pub absorb_blocks_inj : (b n : ℕ) → ((i : ℕ) → i < n → i ≢ b → block bytes i ≡ block bytes' i) → state n bytes ≡ state n bytes' → SameBlocks n bytes bytes'
   unfolding absorb_blocks
-  absorb-blocks_inj b zero same e = λ i lt. absurd (omega arith)
-  absorb-blocks_inj b (suc n) same e =
+  absorb_blocks_inj b zero same e = λ i lt. absurd (omega arith)
+  absorb_blocks_inj b (suc n) same e =
       elim (ℕ_discrete n b) [
         | yes here ↦
             let before : SameBlocks n bytes bytes' = λ j l. same j (omega arith) (omega arith) in
@@ -66,7 +66,7 @@ module _ {A : Addition} (u : Undoes A) (bytes bytes' : List ℕ) (h : AllBytes b
             absorb_inj u full_rounds (block bytes n) (state n bytes) (state n bytes') (block_words_lem bytes h n)
             (blocks_state u n bytes h hs) (blocks_state u n bytes' h' hs)
             (e ∙ ap (λ (words : List ℕ). absorb A.sum full_rounds words (state n bytes')) (sym one)) in
-            up_to n (absorb-blocks_inj b n (λ j l. same j (omega arith)) states) one
+            up_to n (absorb_blocks_inj b n (λ j l. same j (omega arith)) states) one
       ]
 
 -- bytes that fill their blocks
@@ -83,9 +83,9 @@ pub length-padded-input : (S : Settings) (x : Input) → length (padded_input S 
 unfolding padded_input input_blocks
 length-padded-input S x = length-padded x.password x.salt (numbers x S)
 
-padded-input_bytes : (S : Settings) (x : Input) → AllBytes x.password → AllBytes x.salt → AllBytes (padded_input S x)
+padded_input_bytes : (S : Settings) (x : Input) → AllBytes x.password → AllBytes x.salt → AllBytes (padded_input S x)
 unfolding padded_input
-padded-input_bytes S x = padded_bytes x.password x.salt (numbers x S)
+padded_input_bytes S x = padded_bytes x.password x.salt (numbers x S)
 
 -- the state by its blocks
 state_blocks : (S : Settings) (x : Input) → input_state S x ≡ absorb_blocks S.addition.sum (input_blocks (lengths x)) (padded_input S x) start
@@ -94,7 +94,7 @@ state_blocks S x = refl
 
 pub input_state_lem : (S : Settings) (x : Input) → Undoes S.addition → AllBytes x.password → AllBytes x.salt → IsState (input_state S x)
 input_state_lem S x u hp hs =
-    rw state_blocks (blocks_state u (input_blocks (lengths x)) (padded_input S x) (padded-input_bytes S x hp hs) start_state)
+    rw state_blocks (blocks_state u (input_blocks (lengths x)) (padded_input S x) (padded_input_bytes S x hp hs) start_state)
 
 -- equally many blocks, of which at most block b differs
 pub input_state_inj : (S : Settings) (x y : Input) → Undoes S.addition
@@ -106,11 +106,11 @@ pub input_state_inj : (S : Settings) (x y : Input) → Undoes S.addition
 unfolding padded_input
 input_state_inj S x y u xp xs yp ys xk yk xl yl many b same e =
     let n = input_blocks (lengths x) in
-    let hx = padded-input_bytes S x xp xs in
-    let hy = padded-input_bytes S y yp ys in
+    let hx = padded_input_bytes S x xp xs in
+    let hy = padded_input_bytes S y yp ys in
     let states : absorb_blocks S.addition.sum n (padded_input S x) start ≡ absorb_blocks S.addition.sum n (padded_input S y) start =
     sym (state_blocks S x) ∙ e ∙ state_blocks S y ∙ ap (λ (m : ℕ). absorb_blocks S.addition.sum m (padded_input S y) start) (sym many) in
     padded_inj x.key_length y.key_length x.password x.salt y.password y.salt _ _ refl xk yk xl yl
     (same_blocks_bytes (padded_input S x) (padded_input S y) hx hy n (length-padded-input S x)
     (length-padded-input S y ∙ ap (λ (m : ℕ). 64 * m) (sym many))
-    (absorb-blocks_inj u (padded_input S x) (padded_input S y) hx hy start start_state b n same states))
+    (absorb_blocks_inj u (padded_input S x) (padded_input S y) hx hy start start_state b n same states))

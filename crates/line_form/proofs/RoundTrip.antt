@@ -195,10 +195,10 @@ form_refused {line} {salt} {key} q =
 
 -- ---- a writing's answer goes by lengths, T, R and C, and an output of 1,480 bytes is never too short
 
-pub writing_by-lengths : {v₁ v₂ : Values} {o₁ o₁' o₂ o₂' : List ℕ} {w₁ w₂ : LineLength} → Written v₁ o₁ o₁' w₁ → Written v₂ o₂ o₂' w₂
+pub writing_by_lengths : {v₁ v₂ : Values} {o₁ o₁' o₂ o₂' : List ℕ} {w₁ w₂ : LineLength} → Written v₁ o₁ o₁' w₁ → Written v₂ o₂ o₂' w₂
     → v₁.parameters ≡ v₂.parameters → length v₁.salt ≡ length v₂.salt → length v₁.key ≡ length v₂.key → length o₁ ≡ length o₂ → w₁ ≡ w₂
 unfolding write_checks
-writing_by-lengths {v₁} {v₂} {o₁ = o₁} {o₂ = o₂} q₁ q₂ p s k o =
+writing_by_lengths {v₁} {v₂} {o₁ = o₁} {o₂ = o₂} q₁ q₂ p s k o =
     let line = line-length v₁ ∙ (λ i. length_by (p i) (s i) (k i)) ∙ sym (line-length v₂) in
     let number : write_number v₁ o₁ ≡ write_number v₂ o₂ =
     λ i. first (stored_checks (k i) (s i) (p i) ++ (output_check (line i ≤? o i ∷ []) ∷ [])) in

@@ -30,10 +30,10 @@ module _ (p : Parameters) (v w : Mixer) where
   cost_unmixed number l = refl
 
   -- the cost question takes nothing but these
-  pub cost_by-lengths : (l : Lengths) (r₁ r₂ : Costs) → r₁ ≡ cost_answer (first (cost_checks l (mixed_by v p))) l (mixed_by v p)
+  pub cost_by_lengths : (l : Lengths) (r₁ r₂ : Costs) → r₁ ≡ cost_answer (first (cost_checks l (mixed_by v p))) l (mixed_by v p)
       → r₂ ≡ cost_answer (first (cost_checks l (mixed_by w p))) l (mixed_by w p) → r₁ ≡ r₂
   unfolding cost_checks
-  cost_by-lengths l r₁ r₂ e f = e ∙ cost_unmixed _ l ∙ sym f
+  cost_by_lengths l r₁ r₂ e f = e ∙ cost_unmixed _ l ∙ sym f
 
   module _ (x y : Input) (same : lengths x ≡ lengths y) (matrix₁ matrix₂ : List ℕ) (m : length matrix₁ ≡ length matrix₂) where
     plain : {r₁ r₂ : Costs} → r₁ ≡ cost_answer (first (plain_checks (lengths x) (mixed_by v p) (length matrix₁))) (lengths x) (mixed_by v p)
@@ -41,18 +41,18 @@ module _ (p : Parameters) (v w : Mixer) where
     unfolding plain_checks cost_checks
     plain e f = e ∙ cost_unmixed _ (lengths x) ∙ (λ i. cost_answer (first (plain_checks (same i) (mixed_by w p) (m i))) (same i) (mixed_by w p)) ∙ sym f
 
-    pub derivation_by-lengths : (k₁ k₁' m₁' k₂ k₂' m₂' : List ℕ) (r₁ r₂ : Costs)
+    pub derivation_by_lengths : (k₁ k₁' m₁' k₂ k₂' m₂' : List ℕ) (r₁ r₂ : Costs)
         → Derived (mixed_by v p) x k₁ matrix₁ k₁' m₁' r₁ → Derived (mixed_by w p) y k₂ matrix₂ k₂' m₂' r₂ → r₁ ≡ r₂
-    derivation_by-lengths k₁ k₁' m₁' k₂ k₂' m₂' r₁ r₂ d₁ d₂ = plain d₁.answer d₂.answer
+    derivation_by_lengths k₁ k₁' m₁' k₂ k₂' m₂' r₁ r₂ d₁ d₂ = plain d₁.answer d₂.answer
 
-    pub check_by-lengths : (s₁ m₁' s₂ m₂' : List ℕ) (r₁ r₂ : Costs) (same₁ same₂ : ℕ)
+    pub check_by_lengths : (s₁ m₁' s₂ m₂' : List ℕ) (r₁ r₂ : Costs) (same₁ same₂ : ℕ)
         → Compared (mixed_by v p) x s₁ matrix₁ m₁' r₁ same₁ → Compared (mixed_by w p) y s₂ matrix₂ m₂' r₂ same₂ → r₁ ≡ r₂
-    check_by-lengths s₁ m₁' s₂ m₂' r₁ r₂ same₁ same₂ d₁ d₂ = plain d₁.answer d₂.answer
+    check_by_lengths s₁ m₁' s₂ m₂' r₁ r₂ same₁ same₂ d₁ d₂ = plain d₁.answer d₂.answer
 
-    pub recorded_by-lengths : (k₁ v₁ k₁' m₁' v₁' k₂ v₂ k₂' m₂' v₂' : List ℕ) (r₁ r₂ : Costs) (s₁ s₂ : List ℕ) → length v₁ ≡ length v₂
+    pub recorded_by_lengths : (k₁ v₁ k₁' m₁' v₁' k₂ v₂ k₂' m₂' v₂' : List ℕ) (r₁ r₂ : Costs) (s₁ s₂ : List ℕ) → length v₁ ≡ length v₂
         → Recorded (mixed_by v p) x k₁ matrix₁ v₁ k₁' m₁' v₁' r₁ s₁ → Recorded (mixed_by w p) y k₂ matrix₂ v₂ k₂' m₂' v₂' r₂ s₂ → r₁ ≡ r₂
     unfolding recorded_checks plain_checks cost_checks
-    recorded_by-lengths k₁ v₁ k₁' m₁' v₁' k₂ v₂ k₂' m₂' v₂' r₁ r₂ s₁ s₂ e d₁ d₂ =
+    recorded_by_lengths k₁ v₁ k₁' m₁' v₁' k₂ v₂ k₂' m₂' v₂' r₁ r₂ s₁ s₂ e d₁ d₂ =
         d₁.answer ∙ cost_unmixed _ (lengths x) ∙ (λ i. cost_answer (first (recorded_checks (same i) (mixed_by w p) (m i) (e i))) (same i) (mixed_by w p)) ∙ sym d₂.answer
 
 -- ---- what does not depend on ρ, on ω or on the mixer

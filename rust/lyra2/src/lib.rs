@@ -1,6 +1,6 @@
 //! Lyra2 key derivation over a lent matrix.
 //!
-//! The work is done by the proved library, which `rt staticlib derivation_export` builds; this crate gives it
+//! The work is done by the proved library, which `scripts/library.sh derivation_export` builds; this crate gives it
 //! Rust's types and adds no check and no rule of its own. No operation allocates, and none can go wrong in another
 //! way than by a [`Refusal`], which leaves every lent buffer as it was. Memory comes from the caller, who may have
 //! it from [`Parameters::matrix`] and [`Parameters::record`], the only functions here that ask the system for any.

@@ -8,7 +8,7 @@ use Rattle.mixer.specs.declared.Words.{Words}
 use Rattle.mixer.specs.Mixers.{blamka_sum}
 use Rattle.mixer.specs.G.{half_g}
 use Rattle.profile.specs.Profile.{quads}
-use Rattle.blamka.proofs.SideBySide.{round-by_halves}
+use Rattle.blamka.proofs.SideBySide.{round_by_halves}
 use Rattle.permutation.proofs.Along.{at_all, Along, along_none, along_inside, along_again, all_columns, all_diagonals}
 use Rattle.blamka.proofs.blamka_mixed.Statement.{statement}
 use Rattle.blamka.proofs.blamka_mixed.Tie as tie
@@ -49,4 +49,4 @@ blamka_mixed_spec =
     ∙ ap (λ (t : List ℕ). at_all g t (drop 4 quads)) (all_diagonals f e.invariant (omega arith)
     ∙ ap (λ (t : List ℕ). at_all f t (drop 4 quads)) (all_columns g h.invariant.0 (omega arith)
     ∙ ap (λ (t : List ℕ). at_all g t (take 4 quads)) (all_columns f k.invariant.0 (omega arith))))
-    ∙ round-by_halves blamka_sum c.before.before.before.before.before.before.before.before.before.args.first (omega arith)))
+    ∙ round_by_halves blamka_sum c.before.before.before.before.before.before.before.before.before.args.first (omega arith)))

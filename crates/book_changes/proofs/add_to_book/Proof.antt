@@ -66,10 +66,10 @@ returns-2 c =
 pub add_to_book_spec : {M : Type 1} → statement M
 add_to_book_spec =
     tie.close
-    (tie.spec (λ c.(passed_book c.args.used c.args.book.now c.requires.1).inside)
+    (tie.spec (λ c. (passed_book c.args.used c.args.book.now c.requires.1).inside)
     (λ c. sym (length-take-le _ _ (passed_book c.args.used c.args.book.now c.requires.1).inside))
-    (λ c κs.book_run _ (passed_book c.args.used c.args.book.now c.requires.1).is_book)
-    (λ c.(passed_book c.args.used c.args.book.now c.requires.1).inside)
+    (λ c κs. book_run _ (passed_book c.args.used c.args.book.now c.requires.1).is_book)
+    (λ c. (passed_book c.args.used c.args.book.now c.requires.1).inside)
     (λ c. sym (length-take-le _ _ (passed_book c.args.used c.args.book.now c.requires.1).inside))
     (λ c κs. tt) sub-kept sub-if1 (omega arith)
     (λ c.

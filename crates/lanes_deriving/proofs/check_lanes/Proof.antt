@@ -7,28 +7,28 @@ use Rattle.lanes_deriving.proofs.LanesEnds.{cost_yes, cost_no, no_refusal}
 use Rattle.lanes_deriving.proofs.check_lanes.Statement.{statement}
 use Rattle.lanes_deriving.proofs.check_lanes.Tie as tie
 
-returns : tie.Need-returns
+returns : tie.Need-returns-then-number-ne0
 returns c =
-    let e = c.before.before.lanes-room-refusal.ensures in
-    let h = c.before.if1.true in
+    let e = c.before.before.lanes_room_refusal-number.ensures in
+    let h = c.before.if-number-ne0.true in
     record {
-      answer = cost_no _ _ _ e h c.refused.ensures;
+      answer = cost_no _ _ _ e h c.refused-costs.ensures;
       same_is = answered_no _ _ e h refl;
       matrix_after = answered_no _ _ e h refl;
     }
 
-returns-2 : tie.Need-returns-2
+returns-2 : tie.Need-returns
 returns-2 c =
-    let none = sym c.before.before.before.before.before.before.before.before.lanes-room-refusal.ensures ∙ c.before.before.before.before.before.before.before.if1.false in
-    let taken = c.before.before.before.before.take-accepted.ensures in
+    let none = sym c.before.before.before.before.before.before.before.before.lanes_room_refusal-number.ensures ∙ c.before.before.before.before.before.before.before.if-number-ne0.false in
+    let taken = c.before.before.before.before.take_accepted-done.ensures in
     record {
-      answer = cost_yes _ _ _ none refl (c.clear-below.ensures ∙ taken.answer);
+      answer = cost_yes _ _ _ none refl (c.clear_below-costs.ensures ∙ taken.answer);
       same_is = answered-yes _ _ none (ap flag (taken.same_is refl));
       matrix_after = answered-yes _ _ none taken.matrix_is;
     }
 
-pub check-lanes-spec : {M : Type 1} → statement M
-check-lanes-spec =
+pub check_lanes_spec : {M : Type 1} → statement M
+check_lanes_spec =
     tie.close
-    (tie.spec (λ c κs. tt) (λ c κs. tt) returns (omega arith) (λ c κs. sym c.before.before.before.lanes-room-refusal.ensures ∙ c.before.before.if1.false)
-    (λ c κs. no_refusal _ _ _ c.before.before.before.take-accepted.ensures.answer) (omega arith) returns-2)
+    (tie.spec (λ c κs. tt) (λ c κs. tt) returns (omega arith) (λ c κs. sym c.before.before.before.lanes_room_refusal-number.ensures ∙ c.before.before.if-number-ne0.false)
+    (λ c κs. no_refusal _ _ _ c.before.before.before.take_accepted-done.ensures.answer) (omega arith) returns-2)

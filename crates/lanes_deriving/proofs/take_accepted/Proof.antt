@@ -7,35 +7,35 @@ use Rattle.lanes_deriving.proofs.LanesEnds.{lanes_few, begun, begun_length, all_
 use Rattle.lanes_deriving.proofs.take_accepted.Statement.{statement}
 use Rattle.lanes_deriving.proofs.take_accepted.Tie as tie
 
-take-over-requires : tie.Need-take-over-requires
-take-over-requires c κs =
-    let a = c.before.before.before.before.before.before.before.before.before.before.before.args in
-    let none = c.before.before.before.before.before.before.before.before.before.before.before.requires in
+take_over-requires : tie.Need-take_over-done-requires
+take_over-requires c κs =
+    let a = c.args in
+    let none = c.requires in
     let few = lanes_few _ _ _ _ none in
-    begins _ a.q _ _ none c.before.before.before.before.before.usual.ensures (begun a.lanes _ start c.before.before.before.before.start.ensures few) (begun_length a.lanes 0 few)
+    begins _ a.q _ _ none c.usual-p.ensures (begun a.lanes _ start c.start-states.ensures few) (begun_length a.lanes 0 few)
 
-slice-aggregate-clear-states : tie.Need-slice-aggregate-clear-states
-slice-aggregate-clear-states c =
-    let lanes = c.before.before.before.before.before.before.before.before.before.before.before.before.before.before.before.before.before.before.before.before.args.lanes in
-    let few = lanes_few _ _ _ _ c.before.before.before.before.before.before.before.before.before.before.before.before.before.before.before.before.before.before.before.before.requires in
-    let over = c.before.before.before.before.before.before.before.before.take-over in
-    let first = c.before.before.before.before.before.before.before.before.before.before.before.before.before.start.result in
-    all_eight lanes over.new.0 first (over.auto.0 ∙ begun_length lanes first few) few
+slice_aggregate-clear_states : tie.Need-slice_bounds-clear_states-end
+slice_aggregate-clear_states c =
+    let lanes = c.args.lanes in
+    let few = lanes_few _ _ _ _ c.requires in
+    let over = c.take_over-done in
+    let first = c.start-states.result in
+    all_eight lanes over.new.states first (over.auto.states ∙ begun_length lanes first few) few
 
 returns : tie.Need-returns
 returns c =
-    let over = c.before.before.before.before.before.before.before.before.before.before.take-over in
-    rw (sym c.before.before.before.before.before.before.before.before.before.before.before.before.before.before.before.before.usual.ensures)
+    let over = c.take_over-done in
+    rw (sym c.usual-p.ensures)
     (record {
-      answer = costs_again over.result.costs _ _ _ over.ensures.answer c.before.clear-states.ensures.0;
+      answer = costs_again over.result.costs _ _ _ over.ensures.answer c.clear_states.ensures.0;
       key_is = over.ensures.key_is;
       same_is = over.ensures.same_is;
       matrix_is = over.ensures.matrix_is;
     })
 
-pub take-accepted-spec : {M : Type 1} → statement M
-take-accepted-spec =
+pub take_accepted_spec : {M : Type 1} → statement M
+take_accepted_spec =
     tie.close
-    (tie.spec (λ c κs. tt) (λ c κs. tt) (λ c. lanes_few _ _ _ _ c.before.before.before.before.before.before.before.requires) (λ c. sym (begun_length c.before.before.before.before.before.before.before.before.args.lanes c.before.start.result (lanes_few _ _ _ _ c.before.before.before.before.before.before.before.before.requires)))
-    (λ c. lanes_few _ _ _ _ c.before.before.before.before.before.before.before.before.requires) (λ c. sym (begun_length c.before.before.before.before.before.before.before.before.before.args.lanes 0 (lanes_few _ _ _ _ c.before.before.before.before.before.before.before.before.before.requires))) take-over-requires slice-aggregate-clear-states
+    (tie.spec (λ c κs. tt) (λ c κs. tt) (λ c. lanes_few _ _ _ _ c.requires) (λ c. sym (begun_length c.args.lanes c.start-states.result (lanes_few _ _ _ _ c.requires)))
+    (λ c. lanes_few _ _ _ _ c.requires) (λ c. sym (begun_length c.args.lanes 0 (lanes_few _ _ _ _ c.requires))) take_over-requires slice_aggregate-clear_states
     (λ c κs. tt) (omega arith) (omega arith) (omega arith) returns)

@@ -1,5 +1,6 @@
 -- `write_rotated` meets its contract: the two writes, whose order does not matter. Assumes nothing.
-use mathlib.Core.Path.{◌∙◌}
+use mathlib.Core.Path.{ap, ap₂, ◌∙◌}
+use mathlib.Core.List.{List}
 use Prim.Native.Nat.{ℕ}
 use native.Mathlib.Nat.{add-sub_cancel_left}
 use native.Mathlib.Omega.{arith}
@@ -19,7 +20,9 @@ returns c =
     let s = a.s.now in
     let out = c.output-rand.ensures in
     let turned = c.xor_rotated.ensures in
-    let words = c.xored-words.ensures ∙ (λ i. xor_into (take (add-sub_cancel_left a.from 12 i) (drop a.from (turned i))) (out i)) in
+    let words =
+    c.xored-words.ensures ∙ ap (λ (n : ℕ). xor_into (take n (drop a.from c.xor_rotated.new.m)) c.output-rand.result) (add-sub_cancel_left a.from 12)
+    ∙ ap₂ (λ (l r : List ℕ). xor_into (take 12 (drop a.from l)) r) turned out in
     c.put_cell.ensures ∙ (λ i. zip_at (λ (x y : ℕ). y) a.to (turned i) (words i))
     ∙ either_order a.from a.to a.back a.m.now (rand s) (rotated a.omega (rand s)) (length-rand s) (length-rotated a.omega (rand s)) c.requires.1
 
