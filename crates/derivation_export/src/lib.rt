@@ -2,6 +2,7 @@
 // refusal, and the answer's other fields are stored, zeros where the call was refused. A refusal leaves key, matrix and record as
 // they were.
 #![tactic(auto)]
+
 ghost use Rattle.std.specs.Prelude.{◌≡◌, false, [], ◌∷◌, length, drop};
 ghost use Rattle.profile.specs.Profile.{usual_rotation};
 ghost use Rattle.packing.specs.Packing.{low_of, high_of};
@@ -70,7 +71,10 @@ pub extern "C" fn lyra2_derive(
     ensures { Derived (parameters time rows columns rounds rotation mixer) (input password.now salt.now (length key.old)) key.old matrix.old key.new matrix.new («counts-stored» result counts.new) }
 {
     let p = gathered(time, rows, columns, rounds, rotation, mixer);
-    store_costs(plain_deriving::derive(password, salt, p, key, matrix), counts)
+    store_costs(
+        plain_deriving::derive(password, salt, p, key, matrix),
+        counts,
+    )
 }
 
 // The check: `same` becomes 1 where the stored bytes are the key, else 0. The used matrix is left as zeros.

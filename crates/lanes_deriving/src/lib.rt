@@ -1,5 +1,6 @@
 // The operations with several lanes: the derivation, the check of a stored key, and the cost question.
 #![tactic(auto)]
+
 ghost use Rattle.std.specs.Prelude.{◌≡◌, ℕ, ◌<◌, [], length, get_or, replicate};
 ghost use Rattle.profile.specs.Profile.{state_words};
 ghost use Rattle.settings.specs.Settings.{usual};

@@ -1,5 +1,6 @@
 // The profile: its fixed numbers, the two tables of document 01 and the starting state.
 #![tactic(auto)]
+
 ghost use Rattle.std.specs.Prelude.{◌≡◌};
 ghost use Rattle.profile.specs.Profile.{full_rounds, usual_rounds, usual_rotation, block_words, cell_words, quads, start};
 
