@@ -1,78 +1,128 @@
 #!/usr/bin/env bash
 # The loops over the columns of a row, and what they call, multiply no two numbers that the program computes but for BlaMka's two halves
 # of state words, so no row number by C: where rows start is found before them. That product and those by a literal are listed. Looked for
-# in the form that the compiler is given, where nothing has been moved yet.
+# in the form that the compiler is given, where nothing has been moved yet; the kit leaves it in the libraries that it makes.
 set -eu
 cd "$(dirname "$0")/.."
+exec python3 - <<'END'
+import glob
+import json
+import sys
 
-# Of that form: a function is (fn-def "NAME" ..), a call names it as (fnRef "NAME"), a loop is (loop ..), a product (op2 (mul ..) A B), and a
-# literal (int 64 N). A product by 8 or 32 finds an element of a slice or of a table.
-products() { # CRATE LISTED ROW_FUNCTION.. <FORM
-    grep -o '"[^"]*"\|[()]\|[^()" ]*' | awk -v crate="$1" -v listed="$2" -v rows="${*:3}" '
-        $0 == "(" { depth++; head[depth] = ""; literal[depth] = ""; loops[depth] = loops[depth - 1]; next }
-        $0 == ")" { if (head[depth] == "product") product(name, loops[depth] > 0, literal[depth]); depth--; next }
-        head[depth] == "" {
-            head[depth] = $0
-            if ($0 == "loop") loops[depth]++
-            if ($0 == "mul") head[depth - 1] = "product"
-            next
-        }
-        head[depth] == "int" { literal[depth - 1] = $0; next }
-        head[depth] == "fn-def" && /^"/ { name = plain($0); next }
-        head[depth] == "fnRef" { n = ++calls[name]; callee[name, n] = plain($0); looped[name, n] = loops[depth] > 0 }
 
-        function plain(quoted) { return substr(quoted, 2, length(quoted) - 2) }
-        function product(f, inside, by) {
-            if (by == "8" || by == "32") return
-            found[f, inside] = found[f, inside] " " f "*" (by == "" ? "?" : by)
-        }
-        function reach(f, i) {
-            if (f in seen) return
-            seen[f] = 1; reached++
-            under = under found[f, 0] found[f, 1]
-            for (i = 1; i <= calls[f]; i++) reach(callee[f, i])
-        }
-        END {
-            count = split(rows, names, " ")
-            for (r = 1; r <= count; r++) {
-                f = crate "::" names[r]; inner = 0
-                under = under found[f, 1]
-                for (i = 1; i <= calls[f]; i++) if (looped[f, i]) { inner++; reach(callee[f, i]) }
-                if (!inner) { print f " has no loop with a call"; exit 1 }
-            }
-            print crate ": " reached " functions under the column loops of " rows "; products:" under
-            # The look itself is tried on the function that finds a start, which multiplies two numbers.
-            if (found["places::RowStart::of", 0] !~ /[*][?]/) { print "no product is seen in places::RowStart::of"; exit 1 }
-            exit under != listed
-        }'
-}
+def statements(body, at, looped, see):
+    """Reads the statement that begins at a place of a body, which lists a tree from the root on, and answers where the next one begins."""
+    here = body[at]
+    kind, what = (here, None) if isinstance(here, str) else next(iter(here.items()))
+    arms = {"Seq": 2, "If": 2, "Block": 1, "Loop": 1}.get(kind, 0)
+    if kind == "Switch":
+        arms = len(what[1]) + what[2]
+    see(kind, what, looped)
+    at += 1
+    for _ in range(arms):
+        at = statements(body, at, looped or kind == "Loop", see)
+    return at
 
-look() { # CRATE LISTED ROW_FUNCTION..
-    rt mir "$1" 2>/dev/null | products "$@"
-}
+
+def literal(operand):
+    return operand["Int"]["value"] if "Int" in operand else None
+
+
+class Function:
+    def __init__(self, name, body):
+        self.products, self.calls = {False: [], True: []}, []
+
+        def see(kind, what, looped):
+            if kind == "Assign" and "Op2" in what[1]:
+                operation, left, right = what[1]["Op2"]
+                if "Mul" in operation:
+                    by = literal(left) if literal(left) is not None else literal(right)
+                    # A product by 8 or 32 finds an element of a slice or of a table.
+                    if by not in (8, 32):
+                        self.products[looped].append(f"{name}*{'?' if by is None else by}")
+            if kind == "Call":
+                self.calls.append((what[0]["Fn"][0], looped))
+
+        if statements(body, 0, False, see) != len(body):
+            sys.exit(f"{name} was not read to its end")
+
+
+def products(functions, crate, rows):
+    """What is multiplied under the column loops of the functions `rows`, and how many functions stand there."""
+    seen, listed = set(), []
+
+    def reach(name):
+        if name in seen or name not in functions:
+            return
+        seen.add(name)
+        it = functions[name]
+        listed.extend(it.products[False] + it.products[True])
+        for callee, _ in it.calls:
+            reach(callee)
+
+    for row in rows:
+        it = functions[f"{crate}::{row}"]
+        listed.extend(it.products[True])
+        inner = [callee for callee, looped in it.calls if looped]
+        if not inner:
+            sys.exit(f"{crate}::{row} has no loop with a call")
+        for callee in inner:
+            reach(callee)
+    return listed, len(seen)
+
+
+def read(form):
+    return {name: Function(name, it["body"]) for name, it in form}
+
 
 # The look is tried on a made-up form: of what stands before or after a loop, or is called there alone, nothing is listed, and of what
 # stands in the loop, or is called from it, everything.
-made_up() { # FACTOR_IN_THE_LOOP
-    cat <<END
-(fn-def "made::row" (op2 (mul u64) (var omega) (int 64 3)) (call (fnRef "made::before"))
-  (loop (op2 (mul u64) (int 64 2) (var col)) (op2 (mul u64) (var col) (int 64 8)) (call (fnRef "made::column")))
-  (op2 (mul u64) (var row) (var columns)))
-(fn-def "made::before" (op2 (mul u64) (var row) (var columns)))
-(fn-def "made::column" (call (fnRef "made::cell")))
-(fn-def "made::cell" (op2 (mul u64) (var col) $1))
-(fn-def "places::RowStart::of" (op2 (mul u64) (var row) (var columns)))
-END
-}
-tried() { # FACTOR_IN_THE_LOOP LISTED
-    made_up "$1" | products made "$2" row >/dev/null
-}
-tried '(int 64 12)' ' made::row*2 made::cell*12' || { echo 'the products of the made-up form are not listed'; exit 1; }
-for listed in ' made::row*2 made::cell*12' ' made::row*2' ''; do
-    ! tried '(var columns)' "$listed" || { echo "a product of two numbers passes: it lists$listed"; exit 1; }
-done
+def local(n):
+    return {"Copy": {"local": n, "steps": []}}
 
-halves=' mixer::doubled_product*?'
-look setup " places::RowStart::cell_start*12$halves" fill_row copy_row setup_row
-look visits " packing::note*65536 places::RowStart::cell_start*12$halves" visit_row
-look lane_visits " places::RowStart::cell_start*12$halves" visit_row
+
+def product(left, right):
+    return {"Assign": [{"local": 9, "steps": []}, {"Op2": [{"Mul": "Unsigned"}, left, right]}]}
+
+
+def call(name):
+    return {"Call": [{"Fn": [name, {}]}, [], {"local": 9, "steps": []}]}
+
+
+def number(n):
+    return {"Int": {"width": 64, "value": n}}
+
+
+def made_up(factor):
+    loop = ["Seq", product(number(2), local(3)), "Seq", {"If": local(3)}, "Skip", {"Exit": 1}, call("made::column")]
+    row = ["Seq", product(local(1), number(3)), "Seq", call("made::before"), "Seq", "Block", "Loop", *loop, product(local(1), local(2))]
+    return read([("made::row", {"body": row}), ("made::before", {"body": [product(local(1), local(2))]}),
+                 ("made::column", {"body": [call("made::cell")]}), ("made::cell", {"body": [product(local(3), factor)]})])
+
+
+if products(made_up(number(12)), "made", ["row"]) != (["made::row*2", "made::cell*12"], 2):
+    sys.exit("the products of the made-up form are not listed")
+if products(made_up(local(2)), "made", ["row"]) != (["made::row*2", "made::cell*?"], 2):
+    sys.exit("a product of two numbers passes")
+
+functions = {}
+for path in glob.glob("crates/*/out/rlib/*.rlib/toolchain/mir.json"):
+    with open(path, encoding="utf-8") as form:
+        functions |= read(json.load(form))
+if "setup::setup_row" not in functions:
+    sys.exit("no library is there: run 'scripts/library.sh derivation_export' first")
+# The look itself is tried on the function that finds a start, which multiplies two numbers.
+if "places::RowStart::of*?" not in functions["places::RowStart::of"].products[False]:
+    sys.exit("no product is seen in places::RowStart::of")
+
+start, halves = "places::RowStart::cell_start*12", "mixer::doubled_product*?"
+for crate, expected, rows in [
+    ("setup", {start, halves}, ["fill_row", "copy_row", "setup_row"]),
+    ("visits", {"packing::note*65536", start, halves}, ["visit_row"]),
+    ("lane_visits", {start, halves}, ["visit_row"]),
+]:
+    listed, reached = products(functions, crate, rows)
+    print(f"{crate}: {reached} functions under the column loops of {' '.join(rows)}; products: {' '.join(listed)}")
+    if len(listed) != len(expected) or set(listed) != expected:
+        sys.exit(f"expected are {' '.join(sorted(expected))}")
+END

@@ -7,7 +7,7 @@ use Rattle.derivation_export.proofs.lyra2_book_add.Tie as tie
 returns : tie.Need-returns
 returns c =
     let d = c.before.before.before.before.add.ensures in
-    record { answer = c.store-place.ensures ∙ d.answer; book_after = d.book_after }
+    record { answer = c.store_place.ensures ∙ d.answer; book_after = d.book_after }
 
-pub lyra2-book-add-spec : {M : Type 1} → statement M
-lyra2-book-add-spec = tie.close (tie.spec (λ c κs. tt) (λ c κs. tt) (omega arith) returns)
+pub lyra2_book_add_spec : {M : Type 1} → statement M
+lyra2_book_add_spec = tie.close (tie.spec (λ c κs. tt) (λ c κs. tt) (omega arith) returns)

@@ -6,12 +6,12 @@ use Rattle.derivation_export.proofs.lyra2_book_check.Tie as tie
 
 returns : tie.Need-returns
 returns c =
-    let d = c.before.before.before.before.before.before.check-account.ensures in
+    let d = c.before.before.before.before.before.before.check_account-a.ensures in
     record {
-      answer = c.store-costs.ensures ∙ d.answer;
+      answer = c.store_costs.ensures ∙ d.answer;
       same_is = c.before.before.store_same.ensures ∙ d.same_is;
       matrix_after = d.matrix_after;
     }
 
-pub lyra2-book-check-spec : {M : Type 1} → statement M
-lyra2-book-check-spec = tie.close (tie.spec (λ c κs. tt) (λ c κs. tt) (λ c κs. tt) (omega arith) returns)
+pub lyra2_book_check_spec : {M : Type 1} → statement M
+lyra2_book_check_spec = tie.close (tie.spec (λ c κs. tt) (λ c κs. tt) (λ c κs. tt) (omega arith) returns)

@@ -5,7 +5,7 @@ use Rattle.derivation_export.proofs.lyra2_book_find.Tie as tie
 
 returns : tie.Need-returns
 returns c =
-    c.store-place.ensures ∙ c.before.before.find.ensures
+    c.store_place.ensures ∙ c.before.before.find.ensures
 
-pub lyra2-book-find-spec : {M : Type 1} → statement M
-lyra2-book-find-spec = tie.close (tie.spec (λ c κs. tt) (λ c κs. tt) returns)
+pub lyra2_book_find_spec : {M : Type 1} → statement M
+lyra2_book_find_spec = tie.close (tie.spec (λ c κs. tt) (λ c κs. tt) returns)

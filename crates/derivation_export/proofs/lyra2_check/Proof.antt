@@ -19,13 +19,13 @@ returns c =
     let a = c.before.before.before.before.before.before.before.before.before.before.before.before.before.args in
     let m = a.matrix.now in
     let x = input a.password.now a.salt.now (length a.stored.now) in
-    let d = c.before.before.before.before.before.before.check.ensures in
-    let e = c.before.before.before.before.before.before.before.before.gathered.ensures in
+    let d = c.before.before.before.before.before.before.check-a.ensures in
+    let e = c.before.before.before.before.before.before.before.before.gathered-p.ensures in
     record {
-      answer = c.store-costs.ensures ∙ d.answer ∙ ap (λ (p : Parameters). cost_answer (plain_number p x m) (lengths x) p) e;
+      answer = c.store_costs.ensures ∙ d.answer ∙ ap (λ (p : Parameters). cost_answer (plain_number p x m) (lengths x) p) e;
       same_is = c.before.before.store_same.ensures ∙ d.same_is ∙ ap (λ (p : Parameters). answered (plain_number p x m) (flag (same_bytes a.stored.now (key_of (settings p) x m))) 0) e;
       matrix_after = d.matrix_after ∙ ap (λ (p : Parameters). answered (plain_number p x m) (cleared (matrix_words (settings p)) m) m) e;
     }
 
-pub lyra2-check-spec : {M : Type 1} → statement M
-lyra2-check-spec = tie.close (tie.spec (omega arith) (omega arith) (omega arith) (omega arith) (omega arith) returns)
+pub lyra2_check_spec : {M : Type 1} → statement M
+lyra2_check_spec = tie.close (tie.spec (omega arith) (omega arith) (omega arith) (omega arith) (omega arith) returns)

@@ -6,7 +6,7 @@ use Rattle.derivation_export.proofs.lyra2_choose.Tie as tie
 
 returns : tie.Need-returns
 returns c =
-    c.store-choice.ensures ∙ c.before.before.choose.ensures
+    c.store_choice.ensures ∙ c.before.before.choose.ensures
 
-pub lyra2-choose-spec : {M : Type 1} → statement M
-lyra2-choose-spec = tie.close (tie.spec (omega arith) (omega arith) returns)
+pub lyra2_choose_spec : {M : Type 1} → statement M
+lyra2_choose_spec = tie.close (tie.spec (omega arith) (omega arith) returns)

@@ -6,7 +6,7 @@ use Rattle.derivation_export.proofs.lyra2_cost.Tie as tie
 
 returns : tie.Need-returns
 returns c =
-    c.store-costs.ensures ∙ c.before.before.cost.ensures
+    c.store_costs.ensures ∙ c.before.before.cost.ensures
 
-pub lyra2-cost-spec : {M : Type 1} → statement M
-lyra2-cost-spec = tie.close (tie.spec (omega arith) (omega arith) returns)
+pub lyra2_cost_spec : {M : Type 1} → statement M
+lyra2_cost_spec = tie.close (tie.spec (omega arith) (omega arith) returns)

@@ -19,12 +19,12 @@ returns c =
     let m = a.matrix.now in
     let x = input a.password.now a.salt.now (length a.key.now) in
     let d = c.before.before.before.before.before.before.derive.ensures in
-    let e = c.before.before.before.before.before.before.before.before.before.gathered.ensures in
+    let e = c.before.before.before.before.before.before.before.before.before.gathered-p.ensures in
     record {
-      answer = c.store-costs.ensures ∙ d.answer ∙ ap (λ (p : Parameters). cost_answer (plain_number p x m) (lengths x) p) e;
+      answer = c.store_costs.ensures ∙ d.answer ∙ ap (λ (p : Parameters). cost_answer (plain_number p x m) (lengths x) p) e;
       key_after = d.key_after ∙ ap (λ (p : Parameters). answered (plain_number p x m) (key_of (settings p) x m) a.key.now) e;
       matrix_after = d.matrix_after ∙ ap (λ (p : Parameters). answered (plain_number p x m) (cleared (matrix_words (settings p)) m) m) e;
     }
 
-pub lyra2-derive-spec : {M : Type 1} → statement M
-lyra2-derive-spec = tie.close (tie.spec (omega arith) (omega arith) (omega arith) (omega arith) (omega arith) returns)
+pub lyra2_derive_spec : {M : Type 1} → statement M
+lyra2_derive_spec = tie.close (tie.spec (omega arith) (omega arith) (omega arith) (omega arith) (omega arith) returns)

@@ -6,15 +6,15 @@ use Rattle.derivation_export.proofs.lyra2_derive_recorded.Tie as tie
 
 returns : tie.Need-returns
 returns c =
-    let d = c.before.before.before.before.before.before.before.before.before.before.derive-recorded.ensures in
-    rw (sym c.before.before.before.before.before.before.before.before.before.before.before.before.before.before.gathered.ensures)
+    let d = c.before.before.before.before.before.before.before.before.before.before.derive_recorded-a.ensures in
+    rw (sym c.before.before.before.before.before.before.before.before.before.before.before.before.before.before.gathered-p.ensures)
     (record {
-      answer = c.store-costs.ensures ∙ d.answer;
-      state_is = c.before.before.store-state.ensures ∙ d.state_is;
+      answer = c.store_costs.ensures ∙ d.answer;
+      state_is = c.before.before.store_state.ensures ∙ d.state_is;
       key_after = d.key_after;
       matrix_after = d.matrix_after;
       visited_after = d.visited_after;
     })
 
-pub lyra2-derive-recorded-spec : {M : Type 1} → statement M
-lyra2-derive-recorded-spec = tie.close (tie.spec (omega arith) (omega arith) (omega arith) (omega arith) (omega arith) (omega arith) (omega arith) returns)
+pub lyra2_derive_recorded_spec : {M : Type 1} → statement M
+lyra2_derive_recorded_spec = tie.close (tie.spec (omega arith) (omega arith) (omega arith) (omega arith) (omega arith) (omega arith) (omega arith) returns)

@@ -6,8 +6,8 @@ use Rattle.derivation_export.proofs.lyra2_line_write.Tie as tie
 
 returns : tie.Need-returns
 returns c =
-    let d = c.before.before.before.before.write-line.ensures in
+    let d = c.before.before.before.before.write_line.ensures in
     record { answer = c.store_length.ensures ∙ d.answer; line_after = d.line_after }
 
-pub lyra2-line-write-spec : {M : Type 1} → statement M
-lyra2-line-write-spec = tie.close (tie.spec (λ c κs. tt) (λ c κs. tt) (omega arith) returns)
+pub lyra2_line_write_spec : {M : Type 1} → statement M
+lyra2_line_write_spec = tie.close (tie.spec (λ c κs. tt) (λ c κs. tt) (omega arith) returns)

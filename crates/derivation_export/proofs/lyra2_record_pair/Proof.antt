@@ -11,5 +11,5 @@ returns c =
     let of = c.before.before.of.ensures in
     c.store_pair.ensures ∙ ap₂ (λ (a b : ℕ). a ∷ b ∷ []) of.0 of.1
 
-pub lyra2-record-pair-spec : {M : Type 1} → statement M
-lyra2-record-pair-spec = tie.close (tie.spec (omega arith) (omega arith) returns)
+pub lyra2_record_pair_spec : {M : Type 1} → statement M
+lyra2_record_pair_spec = tie.close (tie.spec (omega arith) (omega arith) returns)

@@ -8,7 +8,7 @@ use Rattle.derivation_export.proofs.lyra2_walk.Tie as tie
 returns : tie.Need-returns
 returns c =
     let e = c.before.before.walk.ensures in
-    (c.store-row.ensures.0 ∙ ap (λ (a : WalkAnswer). a.refusal) e, c.store-row.ensures.1 ∙ ap (λ (a : WalkAnswer). a.row1) e)
+    (c.store_row.ensures.0 ∙ ap (λ (a : WalkAnswer). a.refusal) e, c.store_row.ensures.1 ∙ ap (λ (a : WalkAnswer). a.row1) e)
 
-pub lyra2-walk-spec : {M : Type 1} → statement M
-lyra2-walk-spec = tie.close (tie.spec (omega arith) (omega arith) returns)
+pub lyra2_walk_spec : {M : Type 1} → statement M
+lyra2_walk_spec = tie.close (tie.spec (omega arith) (omega arith) returns)
