@@ -87,8 +87,16 @@ pub fn are_distinct(book: &[u8]) -> bool
     requires { is_run book.now ≡ true }
     ensures { result ≡ distinct (accounts book.now) }
 {
-    // Whatever the block holds before, but no 0: of a value that it knows the compiler would make a call of memset.
-    let mut block = [account_at(book, 0).number; BLOCK];
+    // Whatever the block holds before, but no number that the compiler knows, and each written by itself: of zeros, its own for a local too
+    // that it doesn't see written whole, the compiler would make a call of memset.
+    let x = (book.len() % 65_536) as u32;
+    let mut block: [u32; BLOCK] = [
+        x, x, x, x, x, x, x, x, x, x, x, x, x, x, x, x, x, x, x, x, x, x, x, x, x, x, x, x, x, x,
+        x, x, x, x, x, x, x, x, x, x, x, x, x, x, x, x, x, x, x, x, x, x, x, x, x, x, x, x, x, x,
+        x, x, x, x, x, x, x, x, x, x, x, x, x, x, x, x, x, x, x, x, x, x, x, x, x, x, x, x, x, x,
+        x, x, x, x, x, x, x, x, x, x, x, x, x, x, x, x, x, x, x, x, x, x, x, x, x, x, x, x, x, x,
+        x, x, x, x, x, x, x, x,
+    ];
     let mut at = 0;
     while at < book.len() {
         let b = collect(book, at, &mut block);

@@ -28,7 +28,9 @@ fn xor_block(s: &mut [u64; 16], password: &[u8], salt: &[u8], numbers: &[u64], b
 {
     let mut i = 0;
     while i < Profile::BLOCK_WORDS {
-        s[i] = s[i] ^ input_word(password, salt, numbers, BLOCK_BYTES * b + 8 * i);
+        // The word of the state is read last, so that none waits on the stack.
+        let word = input_word(password, salt, numbers, BLOCK_BYTES * b + 8 * i);
+        s[i] = s[i] ^ word;
         i += 1;
     }
 }

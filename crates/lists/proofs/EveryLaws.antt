@@ -53,7 +53,7 @@ module _ (p : ℕ → Bool) where
     unfolding every
     passed_end h = ap (every p) (sym (drop_of_length-le xs {i = i} h)) ∙ q.others
 
--- ---- sameBytes is equality
+-- ---- same_bytes is equality
 
 pub same_of_equal : (xs : List ℕ) → same_bytes xs xs ≡ true
 unfolding same_bytes

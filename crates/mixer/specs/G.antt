@@ -1,4 +1,4 @@
--- G and its inverse. The addition is a parameter; the profile's is plainSum.
+-- G and its inverse. The addition is a parameter; the profile's is plain_sum.
 use Rattle.std.specs.Prelude.{ℕ, ◌-◌, bit_xor}
 use Rattle.mixer.specs.Word.{turn_right}
 use Rattle.mixer.specs.declared.Words.{Words}
@@ -15,7 +15,7 @@ half_g sum m n w =
 unfoldable pub G : (ℕ → ℕ → ℕ) → Words → Words
 G sum w = half_g sum 16 63 (half_g sum 32 24 w)
 
--- halfG undone, its last step first
+-- half_g undone, its last step first
 unfoldable pub un_half_g : (ℕ → ℕ → ℕ) → ℕ → ℕ → Words → Words
 un_half_g back m n w =
     let b = bit_xor (turn_right (64 - n) w.b) w.c in

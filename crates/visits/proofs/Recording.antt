@@ -1,4 +1,4 @@
--- How the record grows: a word a column, visitWords a visit. Assumes nothing.
+-- How the record grows: a word a column, visit_words a visit. Assumes nothing.
 use mathlib.Core.Path.{◌≡◌, refl, sym, ap, ◌∙◌}
 use Prim.Native.Nat.{ℕ, zero, suc, ◌+◌, ◌*◌, ◌<◌}
 use native.Mathlib.Omega.{arith}

@@ -13,19 +13,19 @@ use Rattle.account_numbers.proofs.are_distinct.Tie as tie
 pub are_distinct_spec : {M : Type 1} → statement M
 are_distinct_spec =
     tie.close
-    (tie.spec (λ book block₀ at₀ block at. (length block ≡ 128) × Distinct book at) (λ book block₀ at₀ block at. length book - at)
-    (λ c κs. tt) (λ c. (refl, distinct_none (running_none (run _ c.before.before.requires)))) (λ c. omega (arith, c.before.before.loop-at.invariant.0)) (λ c κs. (c.before.before.loop-at.invariant.1.running, omega arith)) (λ c. omega (arith, c.before.collect-b.ensures.0.count_most)) (λ c. sym (length-take-le _ _ c.before.before.collect-b.ensures.0.count_most)) (λ c κs. tt)
+    (tie.spec (λ book x block₀ at₀ block at. (length block ≡ 128) × Distinct book at) (λ book x block₀ at₀ block at. length book - at)
+    (omega arith) (λ c. (refl, distinct_none (running_none (run _ c.requires)))) (λ c. omega (arith, c.loop-at.invariant.0)) (λ c κs. (c.loop-at.invariant.1.running, omega arith)) (λ c. omega (arith, c.collect-b.ensures.0.count_most)) (λ c. sym (length-take-le _ _ c.collect-b.ensures.0.count_most)) (λ c κs. tt)
     (λ c.
-    distinct_repeated c.before.before.before.before.before.before.before.loop-at.invariant.1 c.before.before.before.before.collect-b.ensures.0
-    (sym c.before.all_differ.ensures ∙ c.if-not-all_differ.true))
-    (λ c. omega (arith, c.before.before.before.before.collect-b.ensures.0.count_most)) (λ c. sym (length-take-le _ _ c.before.before.before.before.before.collect-b.ensures.0.count_most)) (λ c κs. c.before.before.before.before.before.collect-b.ensures.0.running)
+    distinct_repeated c.loop-at.invariant.1 c.collect-b.ensures.0
+    (sym c.all_differ.ensures ∙ c.if-not-all_differ.true))
+    (λ c. omega (arith, c.collect-b.ensures.0.count_most)) (λ c. sym (length-take-le _ _ c.collect-b.ensures.0.count_most)) (λ c κs. c.collect-b.ensures.0.running)
     (λ c.
-    distinct_met c.before.before.before.before.before.before.before.before.before.before.loop-at.invariant.1 c.before.before.before.before.before.before.before.collect-b.ensures.0
-    (sym c.before.before.before.before.all_differ.ensures ∙ c.before.before.before.if-not-all_differ.false) (sym c.before.meets.ensures ∙ c.if-meets.true))
-    (λ c. omega (arith, c.before.before.before.before.before.before.before.collect-b.ensures.0.moves (omega arith)))
+    distinct_met c.loop-at.invariant.1 c.collect-b.ensures.0
+    (sym c.all_differ.ensures ∙ c.if-not-all_differ.false) (sym c.meets.ensures ∙ c.if-meets.true))
+    (λ c. omega (arith, c.collect-b.ensures.0.moves (omega arith)))
     (λ c. (
-      c.before.before.before.before.before.before.before.collect-b.ensures.1 ∙ c.before.before.before.before.before.before.before.before.before.before.loop-at.invariant.0,
-      distinct_more c.before.before.before.before.before.before.before.before.before.before.loop-at.invariant.1 c.before.before.before.before.before.before.before.collect-b.ensures.0
-          (sym c.before.before.before.before.all_differ.ensures ∙ c.before.before.before.if-not-all_differ.false) (sym c.before.meets.ensures ∙ c.if-meets.false),
+      c.collect-b.ensures.1 ∙ c.loop-at.invariant.0,
+      distinct_more c.loop-at.invariant.1 c.collect-b.ensures.0
+          (sym c.all_differ.ensures ∙ c.if-not-all_differ.false) (sym c.meets.ensures ∙ c.if-meets.false),
     ))
-    (λ c. distinct_end c.before.loop-at.invariant.1 (omega arith)))
+    (λ c. distinct_end c.loop-at.invariant.1 (omega arith)))

@@ -28,15 +28,6 @@ sub-if1 c =
     let a = c.args in
     omega (arith, (passed_book a.used a.book.now c.requires.1).inside)
 
-returns : tie.Need-returns-then-book-kept
-returns c =
-    let a = c.args in
-    let book = a.book.now in
-    let g = passed_book a.used book c.requires.1 in
-    let new = account a.number a.p a.salt.now a.key.now in
-    let kept = kept_length a.number a.used book (λ i. (c.slice_known-1.given i).fits) g c.place_of-place.ensures (ap (λ (e : Entry). e.size) c.account_at-size.ensures) in
-    room_refused new a.used book (sym c.requires.0) refl g (omega (arith, kept, with-length new (accounts_in a.used book))) c.no_place.ensures
-
 take_out-requires : tie.Need-take_out-requires
 take_out-requires c κs =
     let a = c.args in
@@ -76,4 +67,10 @@ add_to_book_spec =
     let a = c.args in
     let most = stored_most (length a.key.now) (length a.salt.now) a.p c.requires.0 in
     omega (arith, most.0, most.1))
-    (λ c κs. tt) (omega arith) returns take_out-requires (omega arith) (omega arith) returns-2)
+    (λ c κs. tt) (omega arith) (λ c.
+    let a = c.args in
+    let book = a.book.now in
+    let g = passed_book a.used book c.requires.1 in
+    let new = account a.number a.p a.salt.now a.key.now in
+    let kept = kept_length a.number a.used book (λ i. (c.slice_known-1.given i).fits) g c.place_of-place.ensures (ap (λ (e : Entry). e.size) c.account_at-size.ensures) in
+    room_refused new a.used book (sym c.requires.0) refl g (omega (arith, kept, with-length new (accounts_in a.used book))) c.no_place.ensures) take_out-requires (omega arith) (omega arith) returns-2)

@@ -13,8 +13,9 @@ returns c =
     let full : _ ≡ full_spent a.l = c.full_spent-full.ensures in
     sym (limit_none a.l a.g (omega (arith, full, c.if-g-full.true)))
 
-returns-2 : tie.Need-returns
-returns-2 c =
+pub cell_limit_spec : {M : Type 1} → statement M
+cell_limit_spec =
+    tie.close (tie.spec (omega arith) returns (omega arith) (omega arith) (omega arith) (omega arith) (omega arith) (λ c.
     let a = c.args in
     let g = a.g in
     let full : _ ≡ full_spent a.l = c.full_spent-full.ensures in
@@ -22,8 +23,4 @@ returns-2 c =
     let rounds : _ ≡ min ((g.budget - c.full_spent-full.result) / (2 * g.rounds)) 4194304 = c.smaller.ensures in
     let all : _ ≡ min (g.words / 12) c.smaller.result = c.smaller-2.ensures in
     all ∙ ap (λ (n : ℕ). min (g.words / 12) n) (rounds ∙ ap (λ (n : ℕ). min ((g.budget - n) / (2 * g.rounds)) 4194304) full)
-    ∙ sym (limit_some a.l g enough)
-
-pub cell_limit_spec : {M : Type 1} → statement M
-cell_limit_spec =
-    tie.close (tie.spec (omega arith) returns (omega arith) (omega arith) (omega arith) (omega arith) (omega arith) returns-2)
+    ∙ sym (limit_some a.l g enough)))

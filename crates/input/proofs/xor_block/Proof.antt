@@ -22,8 +22,7 @@ xor_block_spec =
     (λ s₀ password salt numbers b i₀ s i. 8 - i) (λ c. placed_none bit_xor (length-words 8 _)) (omega arith) (omega arith) (omega arith) (omega arith)
     (omega arith) (omega arith) (omega arith) (omega arith) (omega arith) (omega arith)
     (λ c.
-    let head = c.before.before.before in
-    placed_again bit_xor head.loop-i.invariant (omega arith) (omega arith)
-    (c.input_word.ensures ∙ sym (get_or-words 8 _ head.loop-i.i (omega arith)
-    ∙ ap (λ (l : List ℕ). le_value (take 8 l)) (drop-drop (8 * head.loop-i.i) (64 * head.before.before.before.before.args.b) _))))
-    (λ c. placed_end bit_xor c.before.loop-i.invariant (omega arith)))
+    placed_again bit_xor c.loop-i.invariant (omega arith) (omega arith)
+    (c.input_word-word.ensures ∙ sym (get_or-words 8 _ c.loop-i.i (omega arith)
+    ∙ ap (λ (l : List ℕ). le_value (take 8 l)) (drop-drop (8 * c.loop-i.i) (64 * c.args.b) _))))
+    (λ c. placed_end bit_xor c.loop-i.invariant (omega arith)))

@@ -16,12 +16,12 @@ use Rattle.lane_runs.proofs.absorb_lanes.Statement.{statement}
 use Rattle.lane_runs.proofs.absorb_lanes.Tie as tie
 
 abbrev invariant-loop : tie.invariant-loop-i
-invariant-loop states₀ password salt key_length_lem lanes p calls₀ i₀ states calls i =
-    let x = input password salt key_length_lem in
+invariant-loop states₀ password salt key_length lanes p calls₀ i₀ states calls i =
+    let x = input password salt key_length in
     (i ≤ lanes) × (calls ≡ i * lane_blocks (lengths x)) × (length states ≡ length states₀) × (states ≡ loop (absorb_lane (settings p) lanes x) i states₀)
 
 abbrev decreases-loop : tie.decreases-loop-i
-decreases-loop states₀ password salt key_length_lem lanes p calls₀ i₀ states calls i = lanes - i
+decreases-loop states₀ password salt key_length lanes p calls₀ i₀ states calls i = lanes - i
 
 loop-holds : tie.Need-loop-i-init invariant-loop decreases-loop
 loop-holds c = (omega arith, sym (zero-mul _), refl, loop_none _ _)
@@ -38,18 +38,6 @@ add-calls c =
     lanes-blocks : (p b : ℕ) → p ≤ 8 → b ≤ 18 → p * b ≤ 144
     lanes-blocks p b hp hb = mul-le-mul hp hb
 
-loop-again : tie.Need-loop-i-preserved invariant-loop decreases-loop
-loop-again c =
-    let v = c.loop-i in
-    let a = c.args in
-    let absorbed = c.absorb_lane-calls in
-    let l = lengths (input a.password.now a.salt.now a.key_length) in (
-      omega (arith, c.loop-i-test.true),
-      omega (arith, v.invariant.1, absorbed.ensures.1, row_more v.i (lane_blocks l)),
-      length-set v.states v.i absorbed.new.s ∙ v.invariant.2,
-      loop_more _ _ _ _ _ v.invariant.3 (ap (set v.states v.i) absorbed.ensures.0),
-    )
-
 returns : tie.Need-returns invariant-loop decreases-loop
 returns c =
     let v = c.loop-i in
@@ -59,4 +47,13 @@ returns c =
 pub absorb_lanes_spec : {M : Type 1} → statement M
 absorb_lanes_spec =
     tie.close
-    (tie.spec invariant-loop decreases-loop loop-holds (omega arith) (omega arith) (λ c κs. omega (arith, c.requires)) add-calls (omega arith) (omega arith) loop-again (λ c. c.loop-i.invariant.2) returns)
+    (tie.spec invariant-loop decreases-loop loop-holds (omega arith) (omega arith) (λ c κs. omega (arith, c.requires)) add-calls (omega arith) (omega arith) (λ c.
+    let v = c.loop-i in
+    let a = c.args in
+    let absorbed = c.absorb_lane-calls in
+    let l = lengths (input a.password.now a.salt.now a.key_length) in (
+      omega (arith, c.loop-i-test.true),
+      omega (arith, v.invariant.1, absorbed.ensures.1, row_more v.i (lane_blocks l)),
+      length-set v.states v.i absorbed.new.s ∙ v.invariant.2,
+      loop_more _ _ _ _ _ v.invariant.3 (ap (set v.states v.i) absorbed.ensures.0),
+    )) (λ c. c.loop-i.invariant.2) returns)

@@ -8,16 +8,6 @@ use Rattle.line_reading.proofs.ReadLaws.{read_number_lem, readable}
 use Rattle.line_reading.proofs.read_line.Statement.{statement}
 use Rattle.line_reading.proofs.read_line.Tie as tie
 
-returns : tie.Need-returns-then-a-ne0
-returns c =
-    let a = c.args in
-    let is = read_number_lem a.line.now (length a.salt.now) (length a.key.now) c.answer-a.ensures in
-    record {
-      answer = c.answer-a.ensures;
-      salt_after = answered_no _ _ (sym is) c.if-a-ne0.true refl;
-      key_after = answered_no _ _ (sym is) c.if-a-ne0.true refl;
-    }
-
 add-put_text : tie.Need-overflow_add-e
 add-put_text c =
     let a = c.args in
@@ -55,4 +45,11 @@ returns-2 c =
 pub read_line_spec : {M : Type 1} → statement M
 read_line_spec =
     tie.close
-    (tie.spec (λ c κs. tt) returns (λ c κs. tt) add-put_text put_text-requires add-put_text-2 put_text-requires-2 (omega arith) (omega arith) returns-2)
+    (tie.spec (λ c κs. tt) (λ c.
+    let a = c.args in
+    let is = read_number_lem a.line.now (length a.salt.now) (length a.key.now) c.answer-a.ensures in
+    record {
+      answer = c.answer-a.ensures;
+      salt_after = answered_no _ _ (sym is) c.if-a-ne0.true refl;
+      key_after = answered_no _ _ (sym is) c.if-a-ne0.true refl;
+    }) (λ c κs. tt) add-put_text put_text-requires add-put_text-2 put_text-requires-2 (omega arith) (omega arith) returns-2)

@@ -9,27 +9,19 @@ use Rattle.line_texts.proofs.TextLaws.{time_part, rows_part, columns_part, salt_
 use Rattle.line_texts.proofs.are_texts.Statement.{statement}
 use Rattle.line_texts.proofs.are_texts.Tie as tie
 
-returns : tie.Need-returns
-unfolding are_texts
-returns c =
-    let last = c.before.before.before.before in
-    let salt = last.before.before in
-    let columns = salt.before.before in
-    let rows = columns.before.before in
-    let time = rows.before.before in
-    let m = time.before.before.requires in
-    let t = time.is_number_at-time.ensures ∙ ap is_number (time_part m) in
-    let r = rows.is_number_at-rows.ensures ∙ ap is_number (rows_part m) in
-    let n = columns.is_number_at-columns.ensures ∙ ap is_number (columns_part m) in
-    let s = salt.is_text_at-salt.ensures ∙ ap is_text (salt_part m) in
-    let k = last.is_text_at-key.ensures ∙ ap is_text (key_part m) in
-    let rows-too = c.before.before.before.both.ensures ∙ (λ i. t i && r i) in
-    let columns-too = c.before.before.both-2.ensures ∙ (λ i. rows-too i && n i) in
-    let salt-too = c.before.both-3.ensures ∙ (λ i. columns-too i && s i) in
-    c.both-4.ensures ∙ (λ i. salt-too i && k i)
-
 pub are_texts_spec : {M : Type 1} → statement M
+unfolding are_texts
 are_texts_spec =
     tie.close
     (tie.spec (omega arith) (omega arith) (omega arith) (omega arith) (omega arith) (omega arith) (omega arith) (omega arith) (omega arith) (λ c κs. tt)
-    (λ c κs. tt) (λ c κs. tt) (λ c κs. tt) returns)
+    (λ c κs. tt) (λ c κs. tt) (λ c κs. tt) (λ c.
+    let m = c.requires in
+    let t = c.is_number_at-time.ensures ∙ ap is_number (time_part m) in
+    let r = c.is_number_at-rows.ensures ∙ ap is_number (rows_part m) in
+    let n = c.is_number_at-columns.ensures ∙ ap is_number (columns_part m) in
+    let s = c.is_text_at-salt.ensures ∙ ap is_text (salt_part m) in
+    let k = c.is_text_at-key.ensures ∙ ap is_text (key_part m) in
+    let rows-too = c.both.ensures ∙ (λ i. t i && r i) in
+    let columns-too = c.both-2.ensures ∙ (λ i. rows-too i && n i) in
+    let salt-too = c.both-3.ensures ∙ (λ i. columns-too i && s i) in
+    c.both-4.ensures ∙ (λ i. salt-too i && k i)))

@@ -13,9 +13,13 @@ use Rattle.matrix.proofs.CellLaws.{length-rotated, either_order}
 use Rattle.matrix.proofs.write_rotated.Statement.{statement}
 use Rattle.matrix.proofs.write_rotated.Tie as tie
 
-returns : tie.Need-returns
+pub write_rotated_spec : {M : Type 1} → statement M
 unfolding cell_from
-returns c =
+write_rotated_spec =
+    tie.close
+    (tie.spec (omega arith) (omega arith)
+    (λ c κs. (omega arith, omega arith, c.output-rand.ensures))
+    (omega arith) (omega arith) (omega arith) (omega arith) (omega arith) (omega arith) (omega arith) (omega arith) (omega arith) (omega arith) (λ c.
     let a = c.args in
     let s = a.s.now in
     let out = c.output-rand.ensures in
@@ -24,11 +28,4 @@ returns c =
     c.xored-words.ensures ∙ ap (λ (n : ℕ). xor_into (take n (drop a.from c.xor_rotated.new.m)) c.output-rand.result) (add-sub_cancel_left a.from 12)
     ∙ ap₂ (λ (l r : List ℕ). xor_into (take 12 (drop a.from l)) r) turned out in
     c.put_cell.ensures ∙ (λ i. zip_at (λ (x y : ℕ). y) a.to (turned i) (words i))
-    ∙ either_order a.from a.to a.back a.m.now (rand s) (rotated a.omega (rand s)) (length-rand s) (length-rotated a.omega (rand s)) c.requires.1
-
-pub write_rotated_spec : {M : Type 1} → statement M
-write_rotated_spec =
-    tie.close
-    (tie.spec (omega arith) (omega arith)
-    (λ c κs. (omega arith, omega arith, c.output-rand.ensures))
-    (omega arith) (omega arith) (omega arith) (omega arith) (omega arith) (omega arith) (omega arith) (omega arith) (omega arith) (omega arith) returns)
+    ∙ either_order a.from a.to a.back a.m.now (rand s) (rotated a.omega (rand s)) (length-rand s) (length-rotated a.omega (rand s)) c.requires.1))

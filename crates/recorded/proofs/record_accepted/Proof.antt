@@ -7,21 +7,6 @@ use Rattle.runs.proofs.Ends.{state_after, matrix_after, finished, full_with_last
 use Rattle.recorded.proofs.record_accepted.Statement.{statement}
 use Rattle.recorded.proofs.record_accepted.Tie as tie
 
-returns : tie.Need-returns
-returns c =
-    let start = c in
-    let none = start.requires in
-    let run = c.run-ran.ensures in
-    let last = c.finish-full.ensures in
-    let key = c.squeeze-between.ensures in
-    record {
-      answer = cost_yes _ _ none (costs_after _ _ _ (recorded_accepted _ _ _ _ none) (full_with_last run last.0) (c.clear_run-calls.ensures.0 ∙ key.2) run.reduced c.spent-costs.ensures);
-      state_is = answered-yes _ _ none (state_after run);
-      key_after = answered-yes _ _ none (key.0 ∙ key_after start.args.p _ _ (finished run last.1));
-      matrix_after = answered-yes _ _ none (matrix_after run);
-      visited_after = answered-yes _ _ none run.noted;
-    }
-
 pub record_accepted_spec : {M : Type 1} → statement M
 record_accepted_spec =
     tie.close
@@ -33,4 +18,15 @@ record_accepted_spec =
     (λ c κs.
     let run = c.run-ran.ensures in
     omega (arith, counts_fit _ _ _ (recorded_accepted _ _ _ _ c.requires) (full_with_last run c.finish-full.ensures.0) (c.clear_run-calls.ensures.0 ∙ c.squeeze-between.ensures.2) run.reduced))
-    (omega arith) (omega arith) (omega arith) returns)
+    (omega arith) (omega arith) (omega arith) (λ c.
+    let none = c.requires in
+    let run = c.run-ran.ensures in
+    let last = c.finish-full.ensures in
+    let key = c.squeeze-between.ensures in
+    record {
+      answer = cost_yes _ _ none (costs_after _ _ _ (recorded_accepted _ _ _ _ none) (full_with_last run last.0) (c.clear_run-calls.ensures.0 ∙ key.2) run.reduced c.spent-costs.ensures);
+      state_is = answered-yes _ _ none (state_after run);
+      key_after = answered-yes _ _ none (key.0 ∙ key_after c.args.p _ _ (finished run last.1));
+      matrix_after = answered-yes _ _ none (matrix_after run);
+      visited_after = answered-yes _ _ none run.noted;
+    }))

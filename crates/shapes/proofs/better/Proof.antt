@@ -9,5 +9,5 @@ pub better_spec : {M : Type 1} → statement M
 better_spec =
     tie.close
     (tie.spec (omega arith) (omega arith)
-    (λ c. sym (better_second c.before.before.before.args.a c.before.before.before.args.b c.if-a-b.true))
-    (λ c. sym (better-first c.before.before.before.args.a c.before.before.before.args.b c.if-a-b.false)))
+    (λ c. sym (better_second c.args.a c.args.b (omega arith)))
+    (λ c. sym (better-first c.args.a c.args.b (omega arith))))

@@ -32,9 +32,11 @@ visit_row-requires c κs =
       omega arith,
     )
 
-returns : tie.Need-returns
+pub visit_spec : {M : Type 1} → statement M
 unfolding picked_rows
-returns c =
+visit_spec =
+    tie.close
+    (tie.spec (λ c κs. c.requires.0.packable.rows_pos) note-requires (omega arith) visit_row-requires (omega arith) (omega arith) (λ c.
     let r = c.pick_rows-r in
     let row = c.visit_row-calls in
     let noted = c.note in
@@ -47,9 +49,4 @@ returns c =
       walked = visit-done (settings c.args.p) w r.result r.ensures.2 _ row.ensures.1;
       noted = visit_noted (settings c.args.p) w r.result r.ensures.2 c.args.at c.args.«record».now _
           (row.ensures.2 ∙ ap (λ (l : List ℕ). zip_at (λ x y. y) (c.args.at + 1) l (encode_picks (column_picks (settings c.args.p) r.result c.args.p.columns w.done))) rows-noted);
-    }
-
-pub visit_spec : {M : Type 1} → statement M
-visit_spec =
-    tie.close
-    (tie.spec (λ c κs. c.requires.0.packable.rows_pos) note-requires (omega arith) visit_row-requires (omega arith) (omega arith) returns)
+    }))
