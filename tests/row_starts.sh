@@ -94,16 +94,21 @@ def number(n):
 
 
 def made_up(factor):
-    loop = ["Seq", product(number(2), local(3)), "Seq", {"If": local(3)}, "Skip", {"Exit": 1}, call("made::column")]
+    loop = ["Seq", product(number(2), local(3)), "Seq", product(local(3), number(8)), "Seq", {"If": local(3)}, "Skip", {"Exit": 1}, call("made::column")]
     row = ["Seq", product(local(1), number(3)), "Seq", call("made::before"), "Seq", "Block", "Loop", *loop, product(local(1), local(2))]
     return read([("made::row", {"body": row}), ("made::before", {"body": [product(local(1), local(2))]}),
                  ("made::column", {"body": [call("made::cell")]}), ("made::cell", {"body": [product(local(3), factor)]})])
 
 
-if products(made_up(number(12)), "made", ["row"]) != (["made::row*2", "made::cell*12"], 2):
+def agrees(listed, expected):
+    return sorted(listed) == sorted(expected)
+
+
+if not agrees(products(made_up(number(12)), "made", ["row"])[0], ["made::row*2", "made::cell*12"]):
     sys.exit("the products of the made-up form are not listed")
-if products(made_up(local(2)), "made", ["row"]) != (["made::row*2", "made::cell*?"], 2):
-    sys.exit("a product of two numbers passes")
+for expected in (["made::row*2", "made::cell*12"], ["made::row*2"], []):
+    if agrees(products(made_up(local(2)), "made", ["row"])[0], expected):
+        sys.exit(f"a product of two numbers passes: it lists {expected}")
 
 functions = {}
 for path in glob.glob("crates/*/out/rlib/*.rlib/toolchain/mir.json"):
@@ -117,12 +122,12 @@ if "places::RowStart::of*?" not in functions["places::RowStart::of"].products[Fa
 
 start, halves = "places::RowStart::cell_start*12", "mixer::doubled_product*?"
 for crate, expected, rows in [
-    ("setup", {start, halves}, ["fill_row", "copy_row", "setup_row"]),
-    ("visits", {"packing::note*65536", start, halves}, ["visit_row"]),
-    ("lane_visits", {start, halves}, ["visit_row"]),
+    ("setup", [start, halves], ["fill_row", "copy_row", "setup_row"]),
+    ("visits", ["packing::note*65536", start, halves], ["visit_row"]),
+    ("lane_visits", [start, halves], ["visit_row"]),
 ]:
     listed, reached = products(functions, crate, rows)
     print(f"{crate}: {reached} functions under the column loops of {' '.join(rows)}; products: {' '.join(listed)}")
-    if len(listed) != len(expected) or set(listed) != expected:
+    if not agrees(listed, expected):
         sys.exit(f"expected are {' '.join(sorted(expected))}")
 END
