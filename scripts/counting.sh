@@ -46,7 +46,7 @@ crate_names() {
 }
 
 # The proofs: `rt ci` printed its count, proved each crate of crates.txt, in this run or in an earlier one of the same files on this
-# machine, and refused each edit; none is bad, and the count has them all. The crates that carry the promises are named, since
+# machine, and refused each edit, none for a name alone; none is bad, and the count has them all. The crates that carry the promises are named, since
 # crates.txt may lose a line.
 count_proofs() { # STATUS LOG CARRYING
     local n m tally name edit due=0 edits=0
@@ -76,6 +76,7 @@ count_proofs() { # STATUS LOG CARRYING
         grep -qaE "^rt: ok; .*; must-fail edits: $edits refused" "$2" || fail "rt ci did not say that $edits edits were refused"
     fi
     ! grep -qaE '^rt: ok; .*, [0-9]+ bad' "$2" || fail "rt ci called edits bad"
+    ! grep -qaF 'only because a proof file names what the edit took away' "$2" || fail "rt ci refused an edit for a name alone"
 }
 
 # Rust's tests: each package that is named has tests, each test of the sources has run, and none was ignored or left out.

@@ -71,6 +71,7 @@ spoilt 'rt ci did not prove two_export' 'echo "rt: other proved" >>rt.log; sed -
 spoilt 'rt ci did not refuse one/wrong.edit' 'sed -i "/must-fail one/d" rt.log'
 spoilt 'rt ci did not refuse one/wrong.edit' 'sed -i "s/refused, as it must be/NOT REFUSED/" rt.log'
 spoilt 'rt ci did not refuse one/wrong.edit' 'sed -i "s/refused, as it must be/BAD EDIT/" rt.log'
+spoilt 'rt ci refused an edit for a name alone' 'sed -i "s/as it must be/& (only because a proof file names what the edit took away, so this says little of the contract)/" rt.log'
 spoilt 'rt ci called edits bad' 'sed -i "s/1 refused/1 refused, 1 bad/" rt.log'
 spoilt 'rt ci did not say that 1 edits were refused' 'sed -i "s/: 1 refused/: 0 refused/" rt.log'
 spoilt 'rt ci did not say that 1 edits were refused' 'sed -i "/^rt: ok/d" rt.log'
