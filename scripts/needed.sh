@@ -18,6 +18,7 @@ cc gcc
 g++ g++
 groff groff-base
 pkg-config pkgconf
+python3 python3
 script bsdutils
 valgrind valgrind'
 
