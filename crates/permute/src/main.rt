@@ -4,13 +4,11 @@
 
 use mixer::Mixer;
 use profile::Profile;
+use reader_bytes::read_full;
 use std::io;
-use std::io::{Input, Print, Read};
+use std::io::{Input, Print};
 
 const STATE_BYTES: usize = 128;
-
-// One byte more than a state, so that a longer input is seen to be longer.
-const INPUT_BYTES: u64 = 129;
 
 fn print_state(rt: &impl Print, s: &[u64; 16]) -> io::Result<()> {
     for word in s {
@@ -20,12 +18,13 @@ fn print_state(rt: &impl Print, s: &[u64; 16]) -> io::Result<()> {
 }
 
 fn main(rt: HostRuntime) -> io::Result<()> {
-    let mut bytes = Vec::new(rt.alloc());
-    rt.reader().take(INPUT_BYTES).read_to_end(&mut bytes)?;
+    // One byte more than a state, so that a longer input is seen to be longer.
+    let mut bytes = [0u8; 129];
+    let n = read_full(&mut rt.reader(), &mut bytes)?;
     let mut s = Profile::start();
-    if bytes.len() == STATE_BYTES {
+    if n == STATE_BYTES {
         little_endian::load_words(&bytes, &mut s);
-    } else if bytes.len() != 0 {
+    } else if n != 0 {
         println!(rt; "permute: the input has to be empty or 128 bytes long")?;
         return Ok(());
     }
