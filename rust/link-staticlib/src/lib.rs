@@ -11,7 +11,9 @@ pub fn link(library: &str) {
     let archive = folder.join(format!("lib{library}.a"));
     println!("cargo:rerun-if-changed={}", archive.display());
     if !archive.is_file() {
-        eprintln!("target/staticlib/lib{library}.a is missing: run `scripts/library.sh {library}` first");
+        eprintln!(
+            "target/staticlib/lib{library}.a is missing: run `scripts/library.sh {library}` first"
+        );
         std::process::exit(1);
     }
     println!("cargo:rustc-link-search=native={}", folder.display());
