@@ -41,7 +41,8 @@ class Function:
                     if by not in (8, 32):
                         self.products[looped].append(f"{name}*{'?' if by is None else by}")
             if kind == "Call":
-                self.calls.append((what[0]["Fn"][0], looped))
+                # A call through a bound or a pointer names no function.
+                self.calls.append((what[0].get("Fn", ["?"])[0], looped))
 
         if statements(body, 0, False, see) != len(body):
             sys.exit(f"{name} was not read to its end")
@@ -52,6 +53,8 @@ def products(functions, crate, rows):
     seen, listed = set(), []
 
     def reach(name):
+        if name == "?":
+            sys.exit("what is called under a column loop is not known")
         if name in seen or name not in functions:
             return
         seen.add(name)
