@@ -1,6 +1,9 @@
 -- Laws of words: an XOR is undone by the same XOR, a turn by the turn that completes it to 64 bits, a plain sum by a difference.
 -- Assumes nothing.
 use Rattle.std.proofs.Common.{◌≡◌, ℕ, zero, suc, ◌+◌, ◌-◌, ◌*◌, ◌/◌, ◌%◌, ◌^◌, ◌<◌, sym, refl, ap, ◌∙◌, subst, ap₂, add-zero, mod-lt, add_comm, div-add-mod', arith, pow_pos, pow-add, shr_lt}
+use Rattle.std.proofs.Common.{w64}
+use Rattle.std.proofs.Math.Nat.{mod-eq_of_lt}
+use Rattle.std.specs.Int.{rotate_right}
 use native.Mathlib.Nat.{mul-mod_left}
 use lib.Arith.{bin_ind, digits_lt}
 use lib.Pow.{mod-pow-add, shl-shr, high, low, split}
@@ -85,3 +88,10 @@ turn_undo n k both x h =
 
 pub plain_undoes : Undoes plain
 plain_undoes = record { sum_word = λ a b ha hb. omega arith; back_word = λ a b ha hb. omega arith; sum_back = λ a b ha hb. omega arith }
+
+-- the library's rotation is the turn
+pub turn_rotates : (n x : ℕ) → 0 < n → n < 64 → x < 2 ^ 64 → rotate_right w64 x n ≡ turn_right n x
+turn_rotates n x h k w =
+    let by : n % 64 ≡ n = mod-eq_of_lt k in
+    let rest : (64 - n) % 64 ≡ 64 - n = mod-eq_of_lt (omega arith) in
+    rw (by, rest) (turn_shifts n (64 - n) (omega arith) x w)

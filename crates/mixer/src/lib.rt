@@ -2,7 +2,6 @@
 #![tactic(auto)]
 
 ghost use Rattle.std.specs.Prelude.{◌≡◌, ◌%◌, ◌^◌, ◌<◌};
-ghost use Rattle.mixer.specs.Word.{turn_right};
 ghost use Rattle.mixer.specs.Mixers.{doubled_product, sum_of, mixer_of};
 ghost use Rattle.mixer.specs.G.{half_g, G};
 
@@ -13,15 +12,12 @@ pub enum Mixer {
     BlaMka,
 }
 
-impl Mixer {
-    // For callers in C, whose enumerations hold other numbers too: a bool has two values and no third.
-    pub fn of(blamka: bool) -> Mixer
-        ensures { result ≡ mixer_of blamka }
-    {
-        if blamka {
-            return Mixer::BlaMka;
-        }
-        Mixer::Plain
+// For callers in C, whose enumerations hold other numbers too: a bool has two values and no third.
+impl From<bool> for Mixer {
+    ghost from_gives = { λ blamka mixer. mixer ≡ mixer_of blamka };
+
+    fn from(blamka: bool) -> Mixer {
+        if blamka { Mixer::BlaMka } else { Mixer::Plain }
     }
 }
 
@@ -39,7 +35,7 @@ pub fn doubled_product(a: u64, b: u64) -> u64
     ensures { result ≡ doubled_product a b % 2 ^ 64 }
 {
     let product = (a % 4_294_967_296) * (b % 4_294_967_296);
-    std::num::wrapping_add_u64(product, product)
+    product.wrapping_add(product)
 }
 
 // In this order of the sums BlaMka's is fastest.
@@ -47,19 +43,9 @@ fn add(mixer: Mixer, a: u64, b: u64) -> u64
     ensures { result ≡ sum_of mixer a b }
 {
     match mixer {
-        Mixer::Plain => std::num::wrapping_add_u64(a, b),
-        Mixer::BlaMka => {
-            let sum = std::num::wrapping_add_u64(b, doubled_product(a, b));
-            std::num::wrapping_add_u64(a, sum)
-        }
+        Mixer::Plain => a.wrapping_add(b),
+        Mixer::BlaMka => a.wrapping_add(b.wrapping_add(doubled_product(a, b))),
     }
-}
-
-fn turn_right(x: u64, n: u32) -> u64
-    requires { (0 < n) × (n < 64) }
-    ensures { result ≡ turn_right n x }
-{
-    (x >> n) | (x << (64 - n))
 }
 
 pub fn half_g(mixer: Mixer, w: Words, m: u32, n: u32) -> Words
@@ -67,9 +53,9 @@ pub fn half_g(mixer: Mixer, w: Words, m: u32, n: u32) -> Words
     ensures { result ≡ half_g (sum_of mixer) m n w }
 {
     let a = add(mixer, w.a, w.b);
-    let d = turn_right(w.d ^ a, m);
+    let d = (w.d ^ a).rotate_right(m);
     let c = add(mixer, w.c, d);
-    let b = turn_right(w.b ^ c, n);
+    let b = (w.b ^ c).rotate_right(n);
     Words { a, b, c, d }
 }
 

@@ -12,10 +12,8 @@ pub fn xor_words(s: &mut [u64; 16], words: &[u64])
     requires { length words.now ≤ state_words }
     ensures { s.new ≡ xor_into s.old words.now }
 {
-    let mut i = 0;
-    while i < words.len() {
-        s[i] = s[i] ^ words[i];
-        i += 1;
+    for (i, word) in words.iter().enumerate() {
+        s[i] ^= *word;
     }
 }
 
