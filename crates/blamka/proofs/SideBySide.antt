@@ -11,10 +11,9 @@ use Rattle.mixer.specs.declared.Words.{Words}
 use Rattle.mixer.specs.G.{G, half_g}
 use Rattle.profile.specs.declared.Quad.{Quad}
 use Rattle.profile.specs.Profile.{quads}
-use Rattle.permutation.specs.Round.{words_at, put_words, apply_at, round}
-use Rattle.permutation.proofs.Quads.{Spread, Each}
+use Rattle.permutation.specs.Round.{none, words_at, put_words, apply_at, at_all, AllInside, round}
+use Rattle.permutation.proofs.Quads.{Spread, Each, each_at}
 use Rattle.permutation.proofs.Undo.{words_at-put, put-put}
-use Rattle.permutation.proofs.Along.{at_all}
 
 -- another position than those of a quad
 abbrev Off : ℕ → Quad → Type 0
@@ -129,9 +128,23 @@ columns_apart : SideBySide (take 4 quads)
 unfolding quads
 columns_apart = (omega arith, (omega arith, (omega arith, (omega arith, tt))), (omega arith, (omega arith, (omega arith, tt)), (omega arith, (omega arith, tt), (omega arith, tt, tt))))
 
-diagonals_apart : SideBySide (drop 4 quads)
+diagonals_apart : SideBySide (take 4 (drop 4 quads))
 unfolding quads
 diagonals_apart = (omega arith, (omega arith, (omega arith, (omega arith, tt))), (omega arith, (omega arith, (omega arith, tt)), (omega arith, (omega arith, tt), (omega arith, tt, tt))))
+
+columns_spread : Each Spread (take 4 quads)
+unfolding quads
+columns_spread = omega arith
+
+diagonals_spread : Each Spread (take 4 (drop 4 quads))
+unfolding quads
+diagonals_spread = omega arith
+
+pub columns_inside : AllInside (take 4 quads)
+columns_inside n h = (each_at Spread (take 4 quads) none columns_spread n h).inside
+
+pub diagonals_inside : AllInside (take 4 (drop 4 quads))
+diagonals_inside n h = (each_at Spread (take 4 (drop 4 quads)) none diagonals_spread n h).inside
 
 -- the round, half by half
 module _ (sum : ℕ → ℕ → ℕ) where
@@ -142,8 +155,8 @@ module _ (sum : ℕ → ℕ → ℕ) where
   second_half = half_g sum 16 63
 
   pub round_by_halves : (s : List ℕ) → length s ≡ 16
-      → at_all second_half (at_all first_half (at_all second_half (at_all first_half s (take 4 quads)) (take 4 quads)) (drop 4 quads)) (drop 4 quads) ≡ round sum s
+      → at_all second_half (at_all first_half (at_all second_half (at_all first_half s (take 4 quads)) (take 4 quads)) (take 4 (drop 4 quads))) (take 4 (drop 4 quads)) ≡ round sum s
   unfolding round quads G
   round_by_halves s long =
-      ap (λ (t : List ℕ). at_all second_half (at_all first_half t (drop 4 quads)) (drop 4 quads)) (all_all first_half second_half (take 4 quads) columns_apart s long)
-      ∙ all_all first_half second_half (drop 4 quads) diagonals_apart (at_all (G sum) s (take 4 quads)) (length_all (G sum) (take 4 quads) s ∙ long)
+      ap (λ (t : List ℕ). at_all second_half (at_all first_half t (take 4 (drop 4 quads))) (take 4 (drop 4 quads))) (all_all first_half second_half (take 4 quads) columns_apart s long)
+      ∙ all_all first_half second_half (take 4 (drop 4 quads)) diagonals_apart (at_all (G sum) s (take 4 quads)) (length_all (G sum) (take 4 quads) s ∙ long)

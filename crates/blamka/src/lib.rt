@@ -4,10 +4,10 @@
 ghost use Rattle.std.specs.Prelude.{◌≡◌, ◌<◌};
 ghost use Rattle.mixer.specs.G.{half_g};
 ghost use Rattle.mixer.specs.Mixers.{blamka_sum};
-ghost use Rattle.permutation.specs.Round.{Inside, apply_at, round};
+ghost use Rattle.permutation.specs.Round.{Inside, AllInside, apply_at, at_all, round};
 
 use mixer::{Mixer, half_g};
-use permutation::{put_words, words_at};
+use permutation::apply;
 use profile::{Profile, Quad};
 
 // Half of G with BlaMka.
@@ -15,43 +15,30 @@ fn apply_half(s: &mut [u64; 16], q: Quad, m: u32, n: u32)
     requires { Inside q × (0 < m) × (m < 64) × (0 < n) × (n < 64) }
     ensures { s.new ≡ apply_at (half_g blamka_sum m n) q s.old }
 {
-    let w = half_g(Mixer::BlaMka, words_at(s, q), m, n);
-    put_words(s, q, w);
+    apply(s, q, |w| half_g(Mixer::BlaMka, w, m, n));
 }
 
-// A round with BlaMka: the four quads of the columns side by side, half by half, and then those of the diagonals. A product takes its
-// time, and the processor works on four at once. They share no word, so it is G on one after another all the same. The state comes by value,
-// which tells the proof its length.
-fn blamka_mixed(first: [u64; 16]) -> [u64; 16]
-    ensures { result ≡ round blamka_sum first }
+// The same on one quad after another.
+fn apply_halves(s: &mut [u64; 16], quads: &[Quad], m: u32, n: u32)
+    requires inside { AllInside quads.now }
+    requires turns { (0 < m) × (m < 64) × (0 < n) × (n < 64) }
+    ensures { s.new ≡ at_all (half_g blamka_sum m n) s.old quads.now }
 {
-    let quads = Profile::quads();
-    let mut t = first;
-    let mut a = 0;
-    while a < 4 {
-        apply_half(&mut t, quads[a], 32, 24);
-        a += 1;
+    for quad in quads {
+        apply_half(s, *quad, m, n);
     }
-    let mut b = 0;
-    while b < 4 {
-        apply_half(&mut t, quads[b], 16, 63);
-        b += 1;
-    }
-    let mut c = 4;
-    while c < 8 {
-        apply_half(&mut t, quads[c], 32, 24);
-        c += 1;
-    }
-    let mut d = 4;
-    while d < 8 {
-        apply_half(&mut t, quads[d], 16, 63);
-        d += 1;
-    }
-    t
 }
 
+// The four quads of the columns side by side, half by half, and then those of the diagonals. A product takes its time, and the processor
+// works on four at once. They share no word, so it is G on one after another all the same.
 pub fn blamka_round(s: &mut [u64; 16])
     ensures { s.new ≡ round blamka_sum s.old }
 {
-    *s = blamka_mixed(*s);
+    let quads = Profile::quads();
+    let mut t = *s;
+    apply_halves(&mut t, &quads[..4], 32, 24);
+    apply_halves(&mut t, &quads[..4], 16, 63);
+    apply_halves(&mut t, &quads[4..], 32, 24);
+    apply_halves(&mut t, &quads[4..], 16, 63);
+    *s = t;
 }

@@ -1,79 +1,46 @@
--- A function at a quad, and loops over the table of quads. Assumes nothing.
-use mathlib.Core.Path.{◌≡◌, sym, ap, ap₂, ◌∙◌}
-use Prim.Native.Nat.{ℕ, zero, suc, ◌+◌, ◌-◌, ◌≤◌, ◌<◌}
-use native.Mathlib.Omega.{arith}
-use mathlib.Core.List.{List, foldl}
-use lib.ListN.{get_or, take, drop}
+-- A function at a quad, and loops over quads. Assumes nothing.
+use mathlib.Core.Path.{◌≡◌, refl, sym, ap, ◌∙◌}
+use Prim.Native.Nat.{ℕ, ◌+◌, ◌≤◌, ◌<◌}
+use native.Mathlib.Numerals.{add-one}
+use mathlib.Core.List.{List, [], ◌∷◌, ◌++◌}
+use lib.ListN.{length, get_or, take}
+use lib.Seq.{take_all, take-suc}
 use Rattle.mixer.specs.declared.Words.{Words}
-use Rattle.mixer.specs.G.{G}
 use Rattle.profile.specs.declared.Quad.{Quad}
 use Rattle.profile.specs.Profile.{quads}
-use Rattle.permutation.specs.Round.{words_at, put_words, apply_at, round}
+use Rattle.permutation.specs.Round.{none, words_at, put_words, apply_at, at_all, AllInside}
 use Rattle.permutation.proofs.Quads.{Spread, each_at, quads_spread}
 
--- a function of the words that were read at a quad, whose result is put there
-pub applied : (f : Words → Words) (q : Quad) (s : List ℕ) {v w : Words} {t : List ℕ} → v ≡ words_at q s → w ≡ f v → t ≡ put_words q w s → t ≡ apply_at f q s
+-- a function of the words at a quad, whose result is put there
+pub applied : (f : Words → Words) (q : Quad) (s : List ℕ) {w : Words} {t : List ℕ} → w ≡ f (words_at q s) → t ≡ put_words q w s → t ≡ apply_at f q s
 unfolding apply_at
-applied f q s read made put = put ∙ ap (λ (w : Words). put_words q w s) (made ∙ ap f read)
+applied f q s made put = put ∙ ap (λ (w : Words). put_words q w s) made
 
--- a function at every quad of a list
-abbrev pub at_all : (Words → Words) → List ℕ → List Quad → List ℕ
-at_all f s qs = foldl (λ t q. apply_at f q t) s qs
+-- a function at every quad of two lists
+at_both : (f : Words → Words) (ps qs : List Quad) (s : List ℕ) → at_all f s (ps ++ qs) ≡ at_all f (at_all f s ps) qs
+at_both f [] qs s = refl
+at_both f (p ∷ ps) qs s = at_both f ps qs (apply_at f p s)
 
--- what stands past the end of the table
-abbrev pub none : Quad
-none = record { 0 = 0; 1 = 0; 2 = 0; 3 = 0 }
+-- a loop over quads, after n of them
+pub record Along (f : Words → Words) (qs : List Quad) (s₀ : List ℕ) (n : ℕ) (s : List ℕ) : Type 0 where
+  so_far : s ≡ at_all f s₀ (take n qs)
 
--- a function of four words at k quads of a table, from quad n on
-unfoldable along : (Words → Words) → List Quad → ℕ → ℕ → List ℕ → List ℕ
-along f table n zero s = s
-along f table n (suc k) s = apply_at f (get_or table (n + k) none) (along f table n k s)
+module _ (f : Words → Words) {qs : List Quad} {s₀ : List ℕ} where
+  pub along_none : Along f qs s₀ 0 s₀
+  along_none = record { so_far = refl }
 
--- a loop over the table from quad n₀ to quad n
-pub record Along (f : Words → Words) (table : List Quad) (n₀ : ℕ) (s₀ : List ℕ) (n : ℕ) (s : List ℕ) : Type 0 where
-  pub whole : table ≡ quads
-  pub from : n₀ ≤ n
-  pub within : n ≤ 8
-  is : s ≡ along f table n₀ (n - n₀) s₀
-
-module _ (f : Words → Words) {table : List Quad} {n₀ : ℕ} {s₀ : List ℕ} where
-  pub along_none : table ≡ quads → n₀ ≤ 8 → Along f table n₀ s₀ n₀ s₀
-  unfolding along
-  along_none e h =
-      let first : n₀ - n₀ ≡ 0 = omega arith in
-      record { whole = e; from = omega arith; within = h; is = ap (λ (k : ℕ). along f table n₀ k s₀) (sym first) }
-
-  module _ {n : ℕ} {s : List ℕ} (m : Along f table n₀ s₀ n s) where
-    pub along_inside : n < 8 → Spread (get_or table n none)
-    unfolding quads
-    along_inside h = rw m.whole (each_at Spread quads none quads_spread n h)
-
-    pub along_again : {t : List ℕ} → n < 8 → t ≡ apply_at f (get_or table n none) s → Along f table n₀ s₀ (n + 1) t
-    unfolding along
+  module _ {n : ℕ} {s : List ℕ} (m : Along f qs s₀ n s) where
+    pub along_again : {t : List ℕ} → n < length qs → t ≡ apply_at f (get_or qs n none) s → Along f qs s₀ (n + 1) t
     along_again h e =
-        let before = m.from in
-        let next : n + 1 - n₀ ≡ suc (n - n₀) = omega (arith, before) in
-        let place : n ≡ n₀ + (n - n₀) = omega (arith, before) in
         record {
-          whole = m.whole;
-          from = omega (arith, before);
-          within = omega arith;
-          is = e ∙ ap₂ (λ (k : ℕ) (t : List ℕ). apply_at f (get_or table k none) t) place m.is ∙ ap (λ (k : ℕ). along f table n₀ k s₀) (sym next);
+          so_far =
+              rw (add-one, take-suc qs n none h)
+              (e ∙ ap (apply_at f (get_or qs n none)) m.so_far ∙ sym (at_both f (take n qs) (get_or qs n none ∷ []) s₀));
         }
 
--- ---- the ends of such loops
-module _ (f : Words → Words) {table : List Quad} {n : ℕ} {s₀ s : List ℕ} where
-  at_end : (n₀ k : ℕ) → Along f table n₀ s₀ n s → n - n₀ ≡ k → s ≡ along f quads n₀ k s₀
-  at_end n₀ k m e = m.is ∙ ap₂ (λ (k : ℕ) (t : List Quad). along f t n₀ k s₀) e m.whole
+    pub along_end : length qs ≤ n → s ≡ at_all f s₀ qs
+    along_end h = m.so_far ∙ ap (at_all f s₀) (take_all n qs h)
 
-  pub all_columns : Along f table 0 s₀ n s → n ≡ 4 → s ≡ at_all f s₀ (take 4 quads)
-  unfolding quads along
-  all_columns m e = at_end 0 4 m (omega (arith, e))
-
-  pub all_diagonals : Along f table 4 s₀ n s → n ≡ 8 → s ≡ at_all f s₀ (drop 4 quads)
-  unfolding quads along
-  all_diagonals m e = at_end 4 4 m (omega (arith, e))
-
-pub all_quads : (sum : ℕ → ℕ → ℕ) {table : List Quad} {n : ℕ} {s₀ s : List ℕ} → Along (G sum) table 0 s₀ n s → 8 ≤ n → s ≡ round sum s₀
-unfolding round quads along
-all_quads sum m h = at_end (G sum) 0 8 m (omega (arith, h, m.within))
+pub quads_inside : AllInside quads
+unfolding quads
+quads_inside n h = (each_at Spread quads none quads_spread n h).inside

@@ -4,19 +4,17 @@
 ghost use Rattle.std.specs.Prelude.{◌≡◌};
 ghost use Rattle.mixer.specs.G.{G};
 ghost use Rattle.mixer.specs.Word.{plain_sum};
+ghost use Rattle.mixer.specs.declared.Words.{Words};
 ghost use Rattle.permutation.specs.Round.{Inside, words_at, put_words, apply_at, round, rounds};
 
 use mixer::{Mixer, Words, g};
 use profile::{Profile, Quad};
 
-pub fn words_at(s: &[u64; 16], q: Quad) -> Words
+fn words_at(s: &[u64; 16], q: Quad) -> Words
     requires { Inside q }
     ensures { result ≡ words_at q s.now }
 {
-    let i = q.0;
-    let j = q.1;
-    let k = q.2;
-    let l = q.3;
+    let Quad(i, j, k, l) = q;
     Words {
         a: s[i],
         b: s[j],
@@ -25,38 +23,38 @@ pub fn words_at(s: &[u64; 16], q: Quad) -> Words
     }
 }
 
-pub fn put_words(s: &mut [u64; 16], q: Quad, w: Words)
+fn put_words(s: &mut [u64; 16], q: Quad, w: Words)
     requires { Inside q }
     ensures { s.new ≡ put_words q w s.old }
 {
-    let i = q.0;
-    let j = q.1;
-    let k = q.2;
-    let l = q.3;
+    let Quad(i, j, k, l) = q;
     s[i] = w.a;
     s[j] = w.b;
     s[k] = w.c;
     s[l] = w.d;
 }
 
-// G on the words at four positions: they are read first and stored last.
+// A function of four words on those at four positions: they are read first and stored last.
+pub fn apply<F: Fn(Words) -> Words>(s: &mut [u64; 16], q: Quad, f: F)
+    requires { Inside q × F.IsAlwaysCallable f }
+    ensures { (w : Words) × F.post f (words_at q s.old) w × (s.new ≡ put_words q w s.old) }
+{
+    let w = f(words_at(s, q));
+    put_words(s, q, w);
+}
+
 fn apply_g(s: &mut [u64; 16], q: Quad)
     requires { Inside q }
     ensures { s.new ≡ apply_at (G plain_sum) q s.old }
 {
-    let w = g(Mixer::Plain, words_at(s, q));
-    put_words(s, q, w);
+    apply(s, q, |w| g(Mixer::Plain, w));
 }
 
 pub fn plain_round(s: &mut [u64; 16])
     ensures { s.new ≡ round plain_sum s.old }
 {
-    // The table as a local is not stored anew in each turn.
-    let quads = Profile::quads();
-    let mut n = 0;
-    while n < 8 {
-        apply_g(s, quads[n]);
-        n += 1;
+    for quad in &Profile::quads() {
+        apply_g(s, *quad);
     }
 }
 
@@ -67,14 +65,10 @@ pub fn plain_rounds(s: &mut [u64; 16], n: usize)
 {
     let quads = Profile::quads();
     let mut t = *s;
-    let mut k = 0;
-    while k < n {
-        let mut i = 0;
-        while i < 8 {
-            apply_g(&mut t, quads[i]);
-            i += 1;
+    for _ in 0..n {
+        for quad in &quads {
+            apply_g(&mut t, *quad);
         }
-        k += 1;
     }
     *s = t;
 }
