@@ -22,13 +22,12 @@ fn round(s: &mut [u64; 16], mixer: Mixer)
 
 // Round by round: words and products of several do not fit into the registers. `blamka_round` is called for in two places so, and stays a
 // function; `round` then is small enough to be spread into the columns, and the plain mixer pays for a comparison alone.
+#[tactic(auto, unfolding(permutation::specs::Round::rounds))]
 fn blamka_rounds(s: &mut [u64; 16], n: usize)
     ensures { s.new ≡ rounds blamka_sum n s.old }
 {
-    let mut k = 0;
-    while k < n {
+    for _ in 0..n {
         blamka_round(s);
-        k += 1;
     }
 }
 
@@ -42,17 +41,17 @@ pub fn rounds(s: &mut [u64; 16], n: usize, mixer: Mixer)
 }
 
 // Round by round in calls: `plain_round` keeps no word of the state on the stack, and `plain_rounds` does.
+#[tactic(auto, unfolding(permutation::specs::Round::rounds))]
 pub fn full_call(state: &mut [u64; 16], mixer: Mixer)
     ensures { state.new ≡ rounds (sum_of mixer) full_rounds state.old }
 {
-    let mut k = 0;
-    while k < Profile::FULL_ROUNDS {
+    for _ in 0..Profile::FULL_ROUNDS {
         round(state, mixer);
-        k += 1;
     }
 }
 
 // A call of n rounds. The usual one, a single round of the plain mixer, pays for two comparisons and no more.
+#[tactic(auto, unfolding(permutation::specs::Round::rounds))]
 pub fn reduced_call(s: &mut [u64; 16], n: usize, mixer: Mixer)
     ensures { s.new ≡ rounds (sum_of mixer) n s.old }
 {
