@@ -14,15 +14,8 @@ use mixer::{Mixer, Words};
 pub extern "C" fn lyra2_sponge_g(w: &mut [u64; 4], mixer: bool)
     ensures { w.new ≡ four (G (sum_of (mixer_of mixer)) (words w.old)) }
 {
-    let mixed = mixer::g(
-        Mixer::of(mixer),
-        Words {
-            a: w[0],
-            b: w[1],
-            c: w[2],
-            d: w[3],
-        },
-    );
+    let [a, b, c, d] = *w;
+    let mixed = mixer::g(Mixer::from(mixer), Words { a, b, c, d });
     *w = [mixed.a, mixed.b, mixed.c, mixed.d];
 }
 
@@ -30,5 +23,5 @@ pub extern "C" fn lyra2_sponge_g(w: &mut [u64; 4], mixer: bool)
 pub extern "C" fn lyra2_sponge_rounds(s: &mut [u64; 16], n: usize, mixer: bool)
     ensures { s.new ≡ rounds (sum_of (mixer_of mixer)) n s.old }
 {
-    calls::rounds(s, n, Mixer::of(mixer));
+    calls::rounds(s, n, Mixer::from(mixer));
 }
