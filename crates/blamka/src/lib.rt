@@ -18,7 +18,8 @@ fn apply_half(s: &mut [u64; 16], q: Quad, m: u32, n: u32)
     apply(s, q, |w| half_g(Mixer::BlaMka, w, m, n));
 }
 
-// The same on one quad after another.
+// The same on one quad after another. Spread into its four callers, so that the compiler knows the positions.
+#[inline(always)]
 fn apply_halves(s: &mut [u64; 16], quads: &[Quad], m: u32, n: u32)
     requires inside { AllInside quads.now }
     requires turns { (0 < m) × (m < 64) × (0 < n) × (n < 64) }
