@@ -20,8 +20,7 @@ pub fn cell(m: &[u64], row: RowStart, col: Column) -> &[u64]
     ensures result_len { length result.now ≡ cell_words }
 {
     let a = row.cell_start(col);
-    let e = a + Profile::CELL_WORDS;
-    &m[a..e]
+    &m[a..a + Profile::CELL_WORDS]
 }
 
 // A cell XORed with twelve words.
@@ -30,24 +29,21 @@ pub fn xored(cell: &[u64], words: &[u64]) -> [u64; Profile::CELL_WORDS]
     ensures { result ≡ xor_into cell.now words.now }
 {
     let mut r = [0; Profile::CELL_WORDS];
-    let mut j = 0;
-    while j < Profile::CELL_WORDS {
+    for j in 0..Profile::CELL_WORDS {
         r[j] = cell[j] ^ words[j];
-        j += 1;
     }
     r
 }
 
 // A cell is written from words that the caller has copied: the compiler then knows that no store to the matrix changes them.
 // Twelve words put in place of the cell that starts at a.
+
 pub fn put_cell(m: &mut [u64], a: usize, words: &[u64])
     requires { (a + cell_words ≤ length m.old) × (length words.now ≡ cell_words) }
     ensures { m.new ≡ zip_at (λ x y. y) a m.old words.now }
 {
-    let mut j = 0;
-    while j < Profile::CELL_WORDS {
+    for j in 0..Profile::CELL_WORDS {
         m[a + j] = words[j];
-        j += 1;
     }
 }
 
@@ -56,10 +52,8 @@ pub fn xor_cell(m: &mut [u64], a: usize, words: &[u64])
     requires { (a + cell_words ≤ length m.old) × (length words.now ≡ cell_words) }
     ensures { m.new ≡ zip_at bit_xor a m.old words.now }
 {
-    let mut j = 0;
-    while j < Profile::CELL_WORDS {
-        m[a + j] = m[a + j] ^ words[j];
-        j += 1;
+    for j in 0..Profile::CELL_WORDS {
+        m[a + j] ^= words[j];
     }
 }
 
@@ -68,10 +62,8 @@ pub fn xor_turned(m: &mut [u64], a: usize, words: &[u64], by: usize)
     requires { (a + cell_words ≤ length m.old) × (cell_words ≤ length words.now) × (by < cell_words) }
     ensures { m.new ≡ zip_at bit_xor a m.old (rotated by words.now) }
 {
-    let mut j = 0;
-    while j < Profile::CELL_WORDS {
-        m[a + j] = m[a + j] ^ words[(j + by) % Profile::CELL_WORDS];
-        j += 1;
+    for j in 0..Profile::CELL_WORDS {
+        m[a + j] ^= words[(j + by) % Profile::CELL_WORDS];
     }
 }
 
@@ -115,7 +107,6 @@ pub fn write_rotated(
 {
     let rand = output(s);
     xor_rotated(m, back, &rand, s, omega);
-    let end = from + Profile::CELL_WORDS;
-    let words = xored(&m[from..end], &rand);
+    let words = xored(&m[from..from + Profile::CELL_WORDS], &rand);
     put_cell(m, to, &words);
 }
