@@ -4,23 +4,14 @@
 ghost use Rattle.std.specs.Prelude.{◌≡◌, ◌+◌, ◌*◌, ◌≤◌, ◌<◌, length, take, drop, get_or};
 ghost use Rattle.little_endian.specs.Bytes.{le_value, le_bytes, le_words};
 
-// A byte as a number.
-pub fn widened(b: u8) -> u64
-    ensures { result ≡ b }
-{
-    b as u64
-}
-
 // The number that n bytes from byte `at` on stand for.
 pub fn load_number(bytes: &[u8], at: usize, n: usize) -> u64
     requires { (n ≤ 8) × (at + n ≤ length bytes.now) }
     ensures { result ≡ le_value (take n (drop at bytes.now)) }
 {
     let mut v: u64 = 0;
-    let mut i: usize = n;
-    while 0 < i {
-        i -= 1;
-        v = v * 256 + widened(bytes[at + i]);
+    for i in (0..n).rev() {
+        v = v * 256 + u64::from(bytes[at + i]);
     }
     v
 }
@@ -30,10 +21,8 @@ pub fn load_words(bytes: &[u8], words: &mut [u64])
     requires { 8 * length words.old ≤ length bytes.now }
     ensures { words.new ≡ le_words (length words.old) bytes.now }
 {
-    let mut i = 0;
-    while i < words.len() {
+    for i in 0..words.len() {
         words[i] = load_number(bytes, 8 * i, 8);
-        i += 1;
     }
 }
 
