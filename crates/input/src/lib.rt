@@ -14,6 +14,7 @@ use settings::Parameters;
 use sponge::duplex::full_call;
 
 // How many blocks the padded input has.
+#[tactic(auto, unfolding(padded_input::specs::Padded::blocks))]
 pub fn block_count(password: usize, salt: usize, numbers: usize) -> usize
     requires { Short password salt numbers }
     ensures { result ≡ blocks password salt numbers }
@@ -21,20 +22,20 @@ pub fn block_count(password: usize, salt: usize, numbers: usize) -> usize
     (password + salt + NUMBER_BYTES * numbers + BLOCK_BYTES) / BLOCK_BYTES
 }
 
+#[tactic(auto, unfolding(padded_input::specs::Padded::blocks))]
 // Block b of the padded input, XORed into the state word by word.
 fn xor_block(s: &mut [u64; 16], password: &[u8], salt: &[u8], numbers: &[u64], b: usize)
     requires { Short (length password.now) (length salt.now) (length numbers.now) × (b < blocks (length password.now) (length salt.now) (length numbers.now)) }
     ensures { s.new ≡ xor_into s.old (block (padded password.now salt.now numbers.now) b) }
 {
-    let mut i = 0;
-    while i < Profile::BLOCK_WORDS {
+    for i in 0..Profile::BLOCK_WORDS {
         // The word of the state is read last, so that none waits on the stack.
         let word = input_word(password, salt, numbers, BLOCK_BYTES * b + 8 * i);
-        s[i] = s[i] ^ word;
-        i += 1;
+        s[i] ^= word;
     }
 }
 
+#[tactic(auto, unfolding(crate::specs::Input::absorb_blocks, crate::specs::Input::absorb_input, sponge::specs::Sponge::absorb))]
 // Absorbs the padded input for a list of numbers, and returns how many full calls were made.
 pub fn absorb_padded(
     s: &mut [u64; 16],
@@ -48,16 +49,15 @@ pub fn absorb_padded(
 {
     let n = block_count(password.len(), salt.len(), numbers.len());
     let mut calls = 0;
-    let mut b = 0;
-    while b < n {
+    for b in 0..n {
         xor_block(s, password, salt, numbers, b);
         full_call(s, mixer);
         calls += 1;
-        b += 1;
     }
     calls
 }
 
+#[tactic(auto, unfolding(crate::specs::Input::input_blocks))]
 // Absorbs the padded input of a derivation, and returns how many full calls were made.
 pub fn absorb_input(
     s: &mut [u64; 16],
@@ -77,6 +77,5 @@ pub fn absorb_input(
         p.rows as u64,
         p.columns as u64,
     ];
-    let mixer = p.mixer;
-    absorb_padded(s, password, salt, &numbers, mixer)
+    absorb_padded(s, password, salt, &numbers, p.mixer)
 }

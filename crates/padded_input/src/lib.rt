@@ -5,7 +5,7 @@ ghost use Rattle.std.specs.Prelude.{◌≡◌, ◌+◌, ◌*◌, ◌≤◌, ◌<
 ghost use Rattle.little_endian.specs.Bytes.{le_value};
 ghost use Rattle.padded_input.specs.Padded.{Short, block_bytes, padding, padded, blocks};
 
-use little_endian::{byte_of, widened};
+use little_endian::byte_of;
 use profile::Profile;
 
 pub const BLOCK_BYTES: usize = 8 * Profile::BLOCK_WORDS;
@@ -56,10 +56,8 @@ pub fn input_word(password: &[u8], salt: &[u8], numbers: &[u64], at: usize) -> u
     ensures { result ≡ le_value (take 8 (drop at (padded password.now salt.now numbers.now))) }
 {
     let mut v: u64 = 0;
-    let mut i: usize = 8;
-    while 0 < i {
-        i -= 1;
-        v = v * 256 + widened(input_byte(password, salt, numbers, at + i));
+    for i in (0..8).rev() {
+        v = v * 256 + u64::from(input_byte(password, salt, numbers, at + i));
     }
     v
 }
