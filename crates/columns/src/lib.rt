@@ -30,15 +30,11 @@ impl Starts {
         requires { Within columns (starts_of columns rows) (2 ^ 63) }
         ensures { result ≡ starts_of columns rows }
     {
-        let row0 = RowStart::of(rows.row0, columns);
-        let row1 = RowStart::of(rows.row1, columns);
-        let prev0 = RowStart::of(rows.prev0, columns);
-        let prev1 = RowStart::of(rows.prev1, columns);
         Starts {
-            row0,
-            row1,
-            prev0,
-            prev1,
+            row0: RowStart::of(rows.row0, columns),
+            row1: RowStart::of(rows.row1, columns),
+            prev0: RowStart::of(rows.prev0, columns),
+            prev1: RowStart::of(rows.prev1, columns),
         }
     }
 }

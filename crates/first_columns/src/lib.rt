@@ -24,8 +24,7 @@ pub fn fill_column(s: &mut [u64; 16], m: &mut [u64], row0: RowStart, mirror: Col
     let at = row0.cell_start(mirror);
     let rand = output(s);
     put_cell(m, at, &rand);
-    let mixer = p.mixer;
-    reduced_call(s, p.rounds, mixer);
+    reduced_call(s, p.rounds, p.mixer);
 }
 
 // A column of row 1 or 2.
@@ -41,8 +40,7 @@ pub fn copy_column(
     requires { (col.0 < p.columns) × (mirror.0 ≡ mirrored (settings p) col.0) × (cell_start prev0 p.columns ≤ length m.old) × (cell_start row0 p.columns ≤ length m.old) }
     ensures { AtRow p.columns prev0 (λ q. AtRow p.columns row0 (λ r. work s.new m.new ≡ copy_column (settings p) q r col.0 (work s.old m.old))) }
 {
-    let mixer = p.mixer;
-    duplex(s, cell(m, prev0, col), p.rounds, mixer);
+    duplex(s, cell(m, prev0, col), p.rounds, p.mixer);
     let to = row0.cell_start(mirror);
     let rand = output(s);
     let words = xored(cell(m, prev0, col), &rand);

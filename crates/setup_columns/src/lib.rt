@@ -18,14 +18,13 @@ fn duplex_setup(s: &mut [u64; 16], m: &[u64], rows: Starts, col: Column, p: Para
     requires { (col.0 < p.columns) × Within p.columns rows (length m.now) }
     ensures { AtRows p.columns rows (λ r. s.new ≡ duplexed (settings p) (setup_cells (settings p) r col.0 m.now) s.old) }
 {
-    let mixer = p.mixer;
     duplex_sum3(
         s,
         cell(m, rows.row1, col),
         cell(m, rows.prev0, col),
         cell(m, rows.prev1, col),
         p.rounds,
-        mixer,
+        p.mixer,
     );
 }
 

@@ -33,6 +33,7 @@ fn next_sqrt(sqrt: usize, rising: bool) -> usize
 
 impl Order {
     // The order of row 3.
+    #[tactic(auto, unfolding(crate::specs::SetupOrder::first_order))]
     pub fn first() -> Order
         ensures { result ≡ first_order }
     {
@@ -47,20 +48,17 @@ impl Order {
     }
 
     // The order of the next row.
+    #[tactic(auto, unfolding(crate::specs::SetupOrder::next_order, crate::specs::SetupOrder::moved))]
     pub fn next(self) -> Order
         requires { Fits self }
         ensures { result ≡ next_order self }
     {
-        let wnd = self.wnd;
-        let doubled = 2 * wnd;
-        let row1 = (self.row1 + self.stp) % wnd;
+        let doubled = 2 * self.wnd;
+        let row1 = (self.row1 + self.stp) % self.wnd;
         let moved = Order {
-            stp: self.stp,
-            wnd,
-            sqrt: self.sqrt,
-            rising: self.rising,
             row1,
             prev1: self.row1,
+            ..self
         };
         if row1 == 0 {
             return moved.new_window(doubled);
@@ -69,20 +67,18 @@ impl Order {
     }
 
     // A window twice as wide.
+    #[tactic(auto, unfolding(crate::specs::SetupOrder::new_window))]
     fn new_window(self, wnd: usize) -> Order
         requires { (wnd ≡ 2 * self.wnd) × (0 < self.sqrt) × (self.sqrt ≤ 2 ^ 32) }
         ensures { result ≡ new_window self }
     {
         let rising = !self.rising;
-        let stp = with_gap(self.sqrt, self.rising);
-        let sqrt = next_sqrt(self.sqrt, rising);
         Order {
-            stp,
+            stp: with_gap(self.sqrt, self.rising),
             wnd,
-            sqrt,
+            sqrt: next_sqrt(self.sqrt, rising),
             rising,
-            row1: self.row1,
-            prev1: self.prev1,
+            ..self
         }
     }
 }

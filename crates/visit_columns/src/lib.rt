@@ -19,7 +19,6 @@ fn duplex_visit(s: &mut [u64; 16], m: &[u64], rows: Starts, col: Column, at: Pic
     requires { (col.0 < p.columns) × (at.col0.0 < p.columns) × (at.col1.0 < p.columns) × Within p.columns rows (length m.now) }
     ensures { AtRows p.columns rows (λ r. s.new ≡ duplexed (settings p) (visit_cells (settings p) r col.0 at m.now) s.old) }
 {
-    let mixer = p.mixer;
     duplex_sum4(
         s,
         cell(m, rows.row0, col),
@@ -27,7 +26,7 @@ fn duplex_visit(s: &mut [u64; 16], m: &[u64], rows: Starts, col: Column, at: Pic
         cell(m, rows.prev0, at.col0),
         cell(m, rows.prev1, at.col1),
         p.rounds,
-        mixer,
+        p.mixer,
     );
 }
 

@@ -1,7 +1,6 @@
 -- `duplex_setup` meets its contract: its cells are those of the definition. Assumes nothing.
 use mathlib.Core.Path.{ap, ◌∙◌}
 use Prim.Native.Nat.{ℕ}
-use native.Mathlib.Omega.{arith}
 use mathlib.Core.List.{List}
 use Rattle.mixer.specs.Mixers.{sum_of}
 use Rattle.cell_sums.specs.CellSum.{cell_sum}
@@ -9,20 +8,15 @@ use Rattle.sponge.specs.Sponge.{absorb}
 use Rattle.matrix.specs.Cells.{cell_from}
 use Rattle.columns.specs.Columns.{setup_cells}
 use Rattle.columns.proofs.RowLaws.{row1_place, prev0_place, prev1_place}
-use Rattle.setup_columns.proofs.duplex_setup.Statement.{statement}
-use Rattle.setup_columns.proofs.duplex_setup.Tie as tie
+use Rattle.setup_columns.proofs.duplex_setup.Goals as goal
 
-returns : tie.Need-returns
+pub returns : goal.returns
 unfolding setup_cells
 returns c r e =
-    let a = c.before.before.before.before.before.before.args in
+    let a = c.args in
     let C = a.p.columns in
     let from : ℕ → List ℕ = λ n. cell_from n a.m.now in
-    let row1 = c.before.before.before.cell.ensures.0 ∙ ap from (row1_place C r e a.col.0) in
-    let prev0 = c.before.before.cell-2.ensures.0 ∙ ap from (prev0_place C r e a.col.0) in
-    let prev1 = c.before.cell-3.ensures.0 ∙ ap from (prev1_place C r e a.col.0) in
+    let row1 = c.cell.ensures.result_value ∙ ap from (row1_place C r e a.col.0) in
+    let prev0 = c.cell-2.ensures.result_value ∙ ap from (prev0_place C r e a.col.0) in
+    let prev1 = c.cell-3.ensures.result_value ∙ ap from (prev1_place C r e a.col.0) in
     c.duplex_sum3.ensures ∙ (λ i. absorb (sum_of a.p.mixer) a.p.rounds (cell_sum (cell_sum (row1 i) (prev0 i)) (prev1 i)) a.s.now)
-
-pub duplex_setup_spec : {M : Type 1} → statement M
-duplex_setup_spec =
-    tie.close (tie.spec (omega arith) (omega arith) (omega arith) (omega arith) returns)

@@ -1,0 +1,24 @@
+-- `duplex_visit` meets its contract: its cells are those of the definition. Assumes nothing.
+use mathlib.Core.Path.{ap, ◌∙◌}
+use Prim.Native.Nat.{ℕ}
+use mathlib.Core.List.{List}
+use Rattle.mixer.specs.Mixers.{sum_of}
+use Rattle.cell_sums.specs.CellSum.{cell_sum}
+use Rattle.sponge.specs.Sponge.{absorb}
+use Rattle.matrix.specs.Cells.{cell_from}
+use Rattle.columns.specs.Columns.{visit_cells}
+use Rattle.columns.proofs.RowLaws.{row0_place, row1_place, prev0_place, prev1_place}
+use Rattle.visit_columns.proofs.duplex_visit.Goals as goal
+
+pub returns : goal.returns
+unfolding visit_cells
+returns c r e =
+    let a = c.args in
+    let C = a.p.columns in
+    let from : ℕ → List ℕ = λ n. cell_from n a.m.now in
+    let row0 = c.cell.ensures.result_value ∙ ap from (row0_place C r e a.col.0) in
+    let row1 = c.cell-2.ensures.result_value ∙ ap from (row1_place C r e a.col.0) in
+    let prev0 = c.cell-3.ensures.result_value ∙ ap from (prev0_place C r e a.at.col0.0) in
+    let prev1 = c.cell-4.ensures.result_value ∙ ap from (prev1_place C r e a.at.col1.0) in
+    c.duplex_sum4.ensures
+    ∙ (λ i. absorb (sum_of a.p.mixer) a.p.rounds (cell_sum (cell_sum (cell_sum (row0 i) (row1 i)) (prev0 i)) (prev1 i)) a.s.now)
