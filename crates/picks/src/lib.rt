@@ -58,7 +58,8 @@ pub fn pick_columns(s: &[u64; 16], p: Parameters) -> Picks
 {
     let second = place_after(place_after(0, p.rotation), p.rotation);
     let third = place_after(second, p.rotation);
-    let col0 = Column(picked_column(s[second], p.columns));
-    let col1 = Column(picked_column(s[third], p.columns));
-    Picks { col0, col1 }
+    Picks {
+        col0: Column(picked_column(s[second], p.columns)),
+        col1: Column(picked_column(s[third], p.columns)),
+    }
 }

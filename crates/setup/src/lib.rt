@@ -25,13 +25,9 @@ fn fill_row(s: &mut [u64; 16], m: &mut [u64], row0: Row, p: Parameters) -> u64
 {
     let to = RowStart::of(row0, p.columns);
     let mut calls: u64 = 0;
-    let mut col = 0;
-    let mut mirror = p.columns;
-    while col < p.columns {
-        mirror -= 1;
+    for mirror in (0..p.columns).rev() {
         fill_column(s, m, to, Column(mirror), p);
         calls += 1;
-        col += 1;
     }
     calls
 }
@@ -44,13 +40,11 @@ fn copy_row(s: &mut [u64; 16], m: &mut [u64], prev0: Row, row0: Row, p: Paramete
     let from = RowStart::of(prev0, p.columns);
     let to = RowStart::of(row0, p.columns);
     let mut calls: u64 = 0;
-    let mut col = 0;
     let mut mirror = p.columns;
-    while col < p.columns {
+    for col in 0..p.columns {
         mirror -= 1;
         copy_column(s, m, from, to, Column(col), Column(mirror), p);
         calls += 1;
-        col += 1;
     }
     calls
 }
@@ -62,13 +56,11 @@ fn setup_row(s: &mut [u64; 16], m: &mut [u64], rows: Rows, p: Parameters) -> u64
 {
     let starts = Starts::of(rows, p.columns);
     let mut calls: u64 = 0;
-    let mut col = 0;
     let mut mirror = p.columns;
-    while col < p.columns {
+    for col in 0..p.columns {
         mirror -= 1;
         setup_column(s, m, starts, Column(col), Column(mirror), p);
         calls += 1;
-        col += 1;
     }
     calls
 }
@@ -133,11 +125,9 @@ pub fn setup_rows(
     }
     let mut calls = setup_step(s, m, own, other, k, o, p);
     let mut next = o.next();
-    let mut d = 1;
-    while d < n {
+    for d in 1..n {
         calls += setup_step(s, m, own, other, k + d, next, p);
         next = next.next();
-        d += 1;
     }
     SetUp { order: next, calls }
 }
@@ -149,9 +139,8 @@ pub fn set_up(s: &mut [u64; 16], m: &mut [u64], p: Parameters) -> SetUp
 {
     let first = first_rows(s, m, 0, p);
     let rest = setup_rows(s, m, 0, 0, 0, p.rows - 3, Order::first(), p);
-    let order = rest.order;
     SetUp {
-        order,
         calls: first + rest.calls,
+        ..rest
     }
 }

@@ -33,12 +33,10 @@ fn visit_row(
     let starts = Starts::of(rows, p.columns);
     let mut next = pick_columns(s, p);
     let mut calls: u64 = 0;
-    let mut col = 0;
-    while col < p.columns {
+    for col in 0..p.columns {
         note(record, at + col, next.col0.0, next.col1.0);
         next = visit_column(s, m, starts, Column(col), next, p);
         calls += 1;
-        col += 1;
     }
     calls
 }
@@ -48,11 +46,9 @@ fn pick_rows(s: &[u64; 16], prev0: Row, prev1: Row, p: Parameters) -> Rows
     requires { 0 < p.rows }
     ensures { (result.row0.0 < p.rows) × (result.row1.0 < p.rows) × (result ≡ picked_rows (settings p) (walk (work s.now []) prev0.0 prev1.0)) }
 {
-    let row0 = Row(picked(s[0], p.rows));
-    let row1 = Row(picked(s[place_after(0, p.rotation)], p.rows));
     Rows {
-        row0,
-        row1,
+        row0: Row(picked(s[0], p.rows)),
+        row1: Row(picked(s[place_after(0, p.rotation)], p.rows)),
         prev0,
         prev1,
     }
@@ -82,7 +78,9 @@ pub fn visit(
     let r = pick_rows(s, prev0, prev1, p);
     note(record, at, r.row0.0, r.row1.0);
     let calls = visit_row(s, m, r, p, record, at + 1);
-    let row0 = r.row0;
-    let row1 = r.row1;
-    Visited { row0, row1, calls }
+    Visited {
+        row0: r.row0,
+        row1: r.row1,
+        calls,
+    }
 }

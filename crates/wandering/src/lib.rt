@@ -33,23 +33,15 @@ pub fn wander(
             calls: 0,
         };
     }
-    let first = visit(s, m, prev0, prev1, p, record, 0);
-    let mut row0 = first.row0.0;
-    let mut row1 = first.row1.0;
-    let mut calls = first.calls;
+    let mut last = visit(s, m, prev0, prev1, p, record, 0);
     let mut at = 1 + p.columns;
-    let mut k = 1;
-    while k < n {
-        let v = visit(s, m, Row(row0), Row(row1), p, record, at);
-        row0 = v.row0.0;
-        row1 = v.row1.0;
-        calls += v.calls;
+    for _ in 1..n {
+        let next = visit(s, m, last.row0, last.row1, p, record, at);
+        last = Visited {
+            calls: last.calls + next.calls,
+            ..next
+        };
         at += 1 + p.columns;
-        k += 1;
     }
-    Visited {
-        row0: Row(row0),
-        row1: Row(row1),
-        calls,
-    }
+    last
 }

@@ -13,18 +13,17 @@ use Rattle.columns.proofs.RowLaws.{within}
 use Rattle.visits.specs.Visits.{walk, picked_rows, column_picks}
 use Rattle.visits.specs.Encoding.{encode_picks}
 use Rattle.visits.proofs.Recording.{visit-done, visit_noted}
-use Rattle.visits.proofs.visit.Statement.{statement}
-use Rattle.visits.proofs.visit.Tie as tie
+use Rattle.visits.proofs.visit.Goals as goal
 
-note-requires : tie.Need-note-requires
-note-requires c κs =
+pub note-requires : goal.note-requires
+note-requires c =
     let r = c.pick_rows-r.ensures in
     let most = c.requires.0.packable.rows_most in
     (omega (arith, r.0), omega (arith, r.1))
 
-visit_row-requires : tie.Need-visit_row-calls-requires
+pub visit_row-calls-requires : goal.visit_row-calls-requires
 unfolding picked_rows
-visit_row-requires c κs =
+visit_row-calls-requires c =
     let r = c.pick_rows-r in (
       c.requires.0.packable,
       within c.args.p.rows c.args.p.columns (length c.args.m.now) c.requires.0.room r.result r.ensures.0 r.ensures.1
@@ -32,11 +31,9 @@ visit_row-requires c κs =
       omega arith,
     )
 
-pub visit_spec : {M : Type 1} → statement M
+pub returns : goal.returns
 unfolding picked_rows
-visit_spec =
-    tie.close
-    (tie.spec (λ c κs. c.requires.0.packable.rows_pos) note-requires (omega arith) visit_row-requires (omega arith) (omega arith) (λ c.
+returns c =
     let r = c.pick_rows-r in
     let row = c.visit_row-calls in
     let noted = c.note in
@@ -49,4 +46,4 @@ visit_spec =
       walked = visit-done (settings c.args.p) w r.result r.ensures.2 _ row.ensures.1;
       noted = visit_noted (settings c.args.p) w r.result r.ensures.2 c.args.at c.args.«record».now _
           (row.ensures.2 ∙ ap (λ (l : List ℕ). zip_at (λ x y. y) (c.args.at + 1) l (encode_picks (column_picks (settings c.args.p) r.result c.args.p.columns w.done))) rows-noted);
-    }))
+    }
