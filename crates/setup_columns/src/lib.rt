@@ -6,26 +6,23 @@ ghost use Rattle.settings.specs.Settings.{settings};
 ghost use Rattle.columns.specs.Bounds.{AtRows, Apart, Within};
 ghost use Rattle.columns.specs.Columns.{work, mirrored, duplexed, setup_cells, setup_written, setup_column};
 
+use cell_sums::sum3;
 use columns::Starts;
 use matrix::{cell, put_cell, write_rotated, xor_turned, xored};
 use places::Column;
 use profile::Profile;
 use settings::Parameters;
-use sponge::duplex::{duplex_sum3, output};
+use sponge::duplex::{duplex_each, output};
 
 // What it duplexes.
 fn duplex_setup(s: &mut [u64; 16], m: &[u64], rows: Starts, col: Column, p: Parameters)
     requires { (col.0 < p.columns) × Within p.columns rows (length m.now) }
     ensures { AtRows p.columns rows (λ r. s.new ≡ duplexed (settings p) (setup_cells (settings p) r col.0 m.now) s.old) }
 {
-    duplex_sum3(
-        s,
-        cell(m, rows.row1, col),
-        cell(m, rows.prev0, col),
-        cell(m, rows.prev1, col),
-        p.rounds,
-        p.mixer,
-    );
+    let row1 = cell(m, rows.row1, col);
+    let prev0 = cell(m, rows.prev0, col);
+    let prev1 = cell(m, rows.prev1, col);
+    duplex_each(s, |j| sum3(row1, prev0, prev1, j), p.rounds, p.mixer);
 }
 
 // What it then writes. The usual rotation is written out here, so that it pays for a comparison and no more.

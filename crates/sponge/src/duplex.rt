@@ -1,15 +1,16 @@
 // Absorbing and duplexing, and what they rest on: calls of the permutation and the output.
-ghost use Rattle.std.specs.Prelude.{◌≡◌, length};
+#![tactic(auto, unfolding(crate::specs::Sponge::absorb))]
+
+ghost use Rattle.std.specs.Prelude.{◌≡◌, ℕ, ◌<◌, List, length, get_or};
 ghost use Rattle.mixer.specs.Mixers.{sum_of};
 ghost use Rattle.profile.specs.Profile.{full_rounds, cell_words};
-ghost use Rattle.cell_sums.specs.CellSum.{cell_sum};
 ghost use Rattle.sponge.specs.Sponge.{absorb};
 
 pub use calls::{full_call, reduced_call};
-use cell_sums::{xor_sum3, xor_sum4};
 use mixer::Mixer;
+use profile::Profile;
 pub use rate::output;
-use rate::xor_words;
+use rate::{xor_each, xor_words};
 
 // A cell, with a full call.
 pub fn absorb_cell(s: &mut [u64; 16], cell: &[u64], mixer: Mixer)
@@ -29,28 +30,11 @@ pub fn duplex(s: &mut [u64; 16], cell: &[u64], n: usize, mixer: Mixer)
     reduced_call(s, n, mixer);
 }
 
-// The wordwise sum of three cells, with a reduced call.
-pub fn duplex_sum3(s: &mut [u64; 16], a: &[u64], b: &[u64], c: &[u64], n: usize, mixer: Mixer)
-    requires { (length a.now ≡ cell_words) × (length b.now ≡ cell_words) × (length c.now ≡ cell_words) }
-    ensures { s.new ≡ absorb (sum_of mixer) n (cell_sum (cell_sum a.now b.now) c.now) s.old }
+// The words that are given place by place, as those of a sum of cells, with a reduced call.
+pub fn duplex_each<F: Fn(usize) -> u64>(s: &mut [u64; 16], word: F, n: usize, mixer: Mixer)
+    requires { (j : ℕ) → j < cell_words → F.pre word j }
+    ensures { (words : List ℕ) → length words ≡ cell_words → ((j r : ℕ) → j < cell_words → F.post word j r → r ≡ get_or words j 0) → s.new ≡ absorb (sum_of mixer) n words s.old }
 {
-    xor_sum3(s, a, b, c);
-    reduced_call(s, n, mixer);
-}
-
-// The wordwise sum of four cells, with a reduced call.
-pub fn duplex_sum4(
-    s: &mut [u64; 16],
-    a: &[u64],
-    b: &[u64],
-    c: &[u64],
-    d: &[u64],
-    n: usize,
-    mixer: Mixer,
-)
-    requires { (length a.now ≡ cell_words) × (length b.now ≡ cell_words) × (length c.now ≡ cell_words) × (length d.now ≡ cell_words) }
-    ensures { s.new ≡ absorb (sum_of mixer) n (cell_sum (cell_sum (cell_sum a.now b.now) c.now) d.now) s.old }
-{
-    xor_sum4(s, a, b, c, d);
+    xor_each(s, Profile::CELL_WORDS, word);
     reduced_call(s, n, mixer);
 }

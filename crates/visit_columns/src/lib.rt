@@ -6,28 +6,25 @@ ghost use Rattle.settings.specs.Settings.{settings};
 ghost use Rattle.columns.specs.Bounds.{AtRows, Within, Picked};
 ghost use Rattle.columns.specs.Columns.{duplexed, visit_cells, visit_written};
 
+use cell_sums::sum4;
 use columns::{Picks, Starts};
 use matrix::{cell, write_rotated, xor_cell, xor_turned};
 use picks::pick_columns;
 use places::Column;
 use profile::Profile;
 use settings::Parameters;
-use sponge::duplex::{duplex_sum4, output};
+use sponge::duplex::{duplex_each, output};
 
 // What it duplexes.
 fn duplex_visit(s: &mut [u64; 16], m: &[u64], rows: Starts, col: Column, at: Picks, p: Parameters)
     requires { (col.0 < p.columns) × (at.col0.0 < p.columns) × (at.col1.0 < p.columns) × Within p.columns rows (length m.now) }
     ensures { AtRows p.columns rows (λ r. s.new ≡ duplexed (settings p) (visit_cells (settings p) r col.0 at m.now) s.old) }
 {
-    duplex_sum4(
-        s,
-        cell(m, rows.row0, col),
-        cell(m, rows.row1, col),
-        cell(m, rows.prev0, at.col0),
-        cell(m, rows.prev1, at.col1),
-        p.rounds,
-        p.mixer,
-    );
+    let row0 = cell(m, rows.row0, col);
+    let row1 = cell(m, rows.row1, col);
+    let prev0 = cell(m, rows.prev0, at.col0);
+    let prev1 = cell(m, rows.prev1, at.col1);
+    duplex_each(s, |j| sum4(row0, row1, prev0, prev1, j), p.rounds, p.mixer);
 }
 
 // What it then writes; where the two rows are one, both XORs fall on the same cell. The usual rotation is

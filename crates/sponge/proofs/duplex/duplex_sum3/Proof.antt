@@ -1,8 +1,0 @@
-use native.Mathlib.Omega.{arith}
-use Rattle.sponge.specs.Sponge.{absorb}
-use Rattle.sponge.proofs.duplex.duplex_sum3.Statement.{statement}
-use Rattle.sponge.proofs.duplex.duplex_sum3.Tie as tie
-
-pub duplex_sum3_spec : {M : Type 1} → statement M
-unfolding absorb
-duplex_sum3_spec = tie.close (tie.spec (omega arith) (omega arith) (λ c. cc))
