@@ -1,0 +1,19 @@
+-- The code's list of lanes: its states, the rows that were visited last, and what one lane and all of them work on.
+use Rattle.std.specs.Prelude.{ℕ, List, map}
+use Rattle.columns.specs.Columns.{work}
+use Rattle.lanes.specs.Lanes.{works}
+use Rattle.lanes.specs.LaneVisits.{LaneWalk, Lanes, lane_walk, lanes}
+use Rattle.lanes.specs.declared.Lane.{Lane}
+
+abbrev pub states_of : List Lane → List (List ℕ)
+states_of = map (λ l. l.state)
+
+abbrev pub prevs_of : List Lane → List ℕ
+prevs_of = map (λ l. l.prev)
+
+-- over a matrix
+abbrev pub walk : Lane → List ℕ → LaneWalk
+walk l m = lane_walk (work l.state m) l.prev
+
+abbrev pub lanes_of : List Lane → List ℕ → Lanes
+lanes_of l m = lanes (works (states_of l) m) (prevs_of l)
