@@ -1,11 +1,12 @@
 -- The code changes one lane of a list: that lane's state and row, with the matrix, make a step of all lanes. Assumes nothing.
-use Rattle.std.proofs.Common.{◌≡◌, ap, ap₂, sym, ◌∙◌, ℕ, List, [], length, get_or, set}
-use Rattle.std.proofs.lemmas.List.{map-set, length-map}
+use Rattle.std.proofs.Common.{◌≡◌, ap, ap₂, sym, ◌∙◌, ℕ, ◌*◌, ◌<◌, List, [], length, get_or, set}
+use Rattle.std.proofs.lemmas.List.{map-set, length-map, length-set}
 use lib.ListN.{get_or-map}
 use Rattle.columns.specs.Columns.{Work, work}
 use Rattle.lanes.specs.Lanes.{works, in_lane, put_work}
 use Rattle.lanes.specs.LaneVisits.{LaneWalk, lane_walk, lanes, put, step}
-use Rattle.lanes.specs.LaneLists.{states_of, prevs_of, walk, lanes_of}
+use Rattle.lanes.specs.LaneLists.{states_of, prevs_of, walk, lanes_of, Ready}
+use Rattle.lanes.proofs.InTurn.{below_set}
 use Rattle.lanes.specs.declared.Lane.{Lane}
 
 -- what stands past the end of a list
@@ -39,3 +40,6 @@ module _ (l : List Lane) (i : ℕ) where
   lanes_step f x m m' e =
       ap₂ (λ (s : List (List ℕ)) (r : List ℕ). lanes (works s m') r) (states_set x) (prevs_set x)
       ∙ ap (λ (w : LaneWalk). put i w (lanes_of l m)) (e ∙ ap₂ (λ (s : List ℕ) (r : ℕ). f (lane_walk (work s m) r)) (sym state_at) (sym prev_at))
+
+  pub ready_set : {C n words : ℕ} (x : Lane) → Ready C n words l → x.prev < length l * n → Ready C n words (set l i x)
+  ready_set x r lt = record { room = rw length-set r.room; rows = rw (length-set, prevs_set) (below_set (prevs_of l) i x.prev r.rows lt) }
