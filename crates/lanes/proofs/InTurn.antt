@@ -82,19 +82,16 @@ module _ (sqrt : ℕ) where
   visits_reached all zero h = omega (arith, zero-mul sqrt)
   visits_reached all (suc k) h = omega arith
 
--- the calls of two stretches, and what one interval adds
-pub calls_added : (p C a b : ℕ) → a ≤ b → p * (a * C) + p * ((b - a) * C) ≡ p * (b * C)
-calls_added p C a b le =
-    let whole : a + (b - a) ≡ b = omega arith in
-    sym (mul-add p (a * C) ((b - a) * C)) ∙ ap (λ (n : ℕ). p * n) (sym (add-mul a (b - a) C) ∙ ap (λ (n : ℕ). n * C) whole)
+-- an interval has the steps from its first one on, of which there are none past the last of all
+pub steps_between : (a b all first end : ℕ) → first ≡ min a all → end ≡ min b all → end - first ≡ min b all - a
+steps_between a b all first end e f = omega arith
 
-module _ (lanes C first next all sum end calls : ℕ) (before : first < all) (later : first < next) (inv : sum ≡ lanes * (min first all * C)) (at : end ≡ min next all)
-    (more : calls ≡ lanes * ((end - first) * C)) where
-  pub added : sum + calls ≡ lanes * (min next all * C)
-  added =
-      let here : min first all ≡ first = omega arith in
-      let ordered : first ≤ end = omega arith in
-      ap₂ (λ (x y : ℕ). x + y) (inv ∙ ap (λ (n : ℕ). lanes * (n * C)) here) more ∙ calls_added lanes C first end ordered ∙ ap (λ (n : ℕ). lanes * (n * C)) at
+-- its calls, beside those of the steps before it
+pub calls_so_far : (lanes now C first end sum calls : ℕ) → now ≡ lanes → first ≤ end → sum ≡ lanes * (first * C) → calls ≡ now * ((end - first) * C) → sum + calls ≡ lanes * (end * C)
+calls_so_far p now C a b sum calls as_many le e f =
+    let whole : a + (b - a) ≡ b = omega arith in
+    ap₂ (λ (x y : ℕ). x + y) e (f ∙ ap (λ (n : ℕ). n * ((b - a) * C)) as_many)
+    ∙ sym (mul-add p (a * C) ((b - a) * C)) ∙ ap (λ (n : ℕ). p * n) (sym (add-mul a (b - a) C) ∙ ap (λ (n : ℕ). n * C) whole)
 
 -- lanes without a visit
 pub visits_none : (S : Settings) (p n t : ℕ) (l : Lanes) → visits_in_turn S p n t 0 l ≡ l

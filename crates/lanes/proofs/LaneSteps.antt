@@ -5,7 +5,7 @@ use lib.ListN.{get_or-map}
 use Rattle.columns.specs.Columns.{Work, work}
 use Rattle.lanes.specs.Lanes.{works, in_lane, put_work}
 use Rattle.lanes.specs.LaneVisits.{LaneWalk, lane_walk, lanes, put, step}
-use Rattle.lanes.specs.LaneLists.{states_of, prevs_of, walk, lanes_of, Ready}
+use Rattle.lanes.specs.LaneLists.{states_of, prevs_of, walk, works_of, lanes_of, Ready}
 use Rattle.lanes.proofs.InTurn.{below_set}
 use Rattle.lanes.specs.declared.Lane.{Lane}
 
@@ -30,10 +30,10 @@ module _ (l : List Lane) (i : ℕ) where
   prevs_set x = map-set (λ (y : Lane). y.prev) l i x
 
   -- a step of the state and the matrix
-  pub works_step : (f : Work → Work) (x : Lane) (m m' : List ℕ) → work x.state m' ≡ f (work (get_or l i no_lane).state m) → works (states_of (set l i x)) m' ≡ in_lane i f (works (states_of l) m)
+  pub works_step : (f : Work → Work) (x : Lane) (m m' : List ℕ) → work x.state m' ≡ f (work (get_or l i no_lane).state m) → works_of (set l i x) m' ≡ in_lane i f (works_of l m)
   works_step f x m m' e =
       ap (λ (s : List (List ℕ)). works s m') (states_set x)
-      ∙ ap (λ (w : Work). put_work i w (works (states_of l) m)) (e ∙ ap (λ (s : List ℕ). f (work s m)) (sym state_at))
+      ∙ ap (λ (w : Work). put_work i w (works_of l m)) (e ∙ ap (λ (s : List ℕ). f (work s m)) (sym state_at))
 
   -- a step of all that a lane goes on with
   pub lanes_step : (f : LaneWalk → LaneWalk) (x : Lane) (m m' : List ℕ) → walk x m' ≡ f (walk (get_or l i no_lane) m) → lanes_of (set l i x) m' ≡ step (λ j. f) i (lanes_of l m)

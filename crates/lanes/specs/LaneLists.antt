@@ -1,7 +1,7 @@
 -- The code's list of lanes: its states, the rows that were visited last, and what one lane and all of them work on.
 use Rattle.std.specs.Prelude.{ℕ, ◌*◌, List, length, map}
 use Rattle.columns.specs.Columns.{work}
-use Rattle.lanes.specs.Lanes.{works}
+use Rattle.lanes.specs.Lanes.{Works, works}
 use Rattle.lanes.specs.LaneVisits.{LaneWalk, Lanes, lane_walk, lanes}
 use Rattle.lanes.specs.Room.{Room, Below}
 use Rattle.lanes.specs.declared.Lane.{Lane}
@@ -16,8 +16,11 @@ prevs_of = map (λ l. l.prev)
 abbrev pub walk : Lane → List ℕ → LaneWalk
 walk l m = lane_walk (work l.state m) l.prev
 
+abbrev pub works_of : List Lane → List ℕ → Works
+works_of l m = works (states_of l) m
+
 abbrev pub lanes_of : List Lane → List ℕ → Lanes
-lanes_of l m = lanes (works (states_of l) m) (prevs_of l)
+lanes_of l m = lanes (works_of l m) (prevs_of l)
 
 -- what their visits ask for, with n rows of C columns each in a matrix of so many words: there is room for them, and each visited a row of
 -- theirs last

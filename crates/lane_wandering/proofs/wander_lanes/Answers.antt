@@ -4,8 +4,8 @@ use Rattle.lists.proofs.LoopLaws.{loop_none, loop_more}
 use Rattle.lanes.specs.Meetings.{first_visit, visits_in}
 use Rattle.lanes.specs.LaneVisits.{visits_in_turn, wander_lanes}
 use Rattle.lanes.specs.LaneLists.{lanes_of}
-use Rattle.lanes.proofs.InTurn.{few, sqrt_range, calls_most, visit-zero, visit_end, visit-later, visits_over}
-use Rattle.lane_wandering.proofs.Intervals.{interval_end, interval_few, intervals_few, all_reached, visits_between, calls_so_far}
+use Rattle.lanes.proofs.InTurn.{few, sqrt_range, calls_most, steps_between, calls_so_far, visit-zero, visit_end, visit-later, visits_over}
+use Rattle.lane_wandering.proofs.Intervals.{interval_end, interval_few, intervals_few, all_reached}
 use Rattle.lane_wandering.proofs.wander_lanes.Goals as goal
 
 pub div_ceil-t-end-requires : goal.div_ceil-t-end-requires
@@ -65,7 +65,7 @@ loop-t-preserved c =
     let ordered : v.first ≤ c.min-end.result = omega (arith, visit_end a.sqrt v.t, visit-later a.sqrt v.t (v.t + 1) (omega arith)) in
     let end_is = c.min-end.ensures ∙ ap (λ (n : ℕ). min n (a.rows * a.p.time)) (visit_end a.sqrt v.t ∙ ap (first_visit a.sqrt) (add-one v.t)) in
     let count : c.min-end.result - v.first ≡ visits_in (settings a.p) a.rows v.t =
-    rw (← c.requires.1) (visits_between _ _ (a.rows * a.p.time) _ _ v.invariant.first_is end_is) in
+    rw (← c.requires.1) (steps_between _ _ (a.rows * a.p.time) _ _ v.invariant.first_is end_is) in
     record {
       first_is = omega (arith, visit_end a.sqrt v.t);
       counted = calls_so_far (length a.lanes.now) _ a.p.columns v.first c.min-end.result _ _ v.auto.lanes ordered v.invariant.counted visited.0;
