@@ -68,10 +68,8 @@ pub fn clear(words: &mut [u64], n: usize, zero: u64)
     requires { (n ≤ length words.old) × (zero ≡ 0) }
     ensures { words.new ≡ cleared n words.old }
 {
-    let mut j = 0;
-    while j < n {
+    for j in 0..n {
         words[j] = zero;
-        j += 1;
     }
 }
 

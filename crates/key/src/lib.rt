@@ -1,8 +1,7 @@
 // Squeezing the key out of a state, and comparing it with a stored one byte by byte as it comes.
 #![tactic(auto)]
 
-ghost use Rattle.std.specs.Prelude.{◌≡◌, ◌^◌, ◌<◌, length, get_or};
-ghost use Rattle.std.specs.Int.Bits.{bit_or, bit_xor};
+ghost use Rattle.std.specs.Prelude.{◌≡◌, ◌^◌, ◌<◌, length};
 ghost use Rattle.mixer.specs.Mixers.{sum_of};
 ghost use Rattle.key.specs.Key.{key_bytes, pieces, calls_between, squeezed, same_bytes};
 
@@ -10,11 +9,12 @@ use key_bytes::{PIECE_BYTES, next_byte};
 use mixer::Mixer;
 
 // How many pieces a key of so many bytes takes.
+#[tactic(auto, unfolding(crate::specs::Key::pieces))]
 pub fn piece_count(bytes: usize) -> usize
     requires { bytes < 2 ^ 32 }
     ensures { result ≡ pieces bytes }
 {
-    (bytes + PIECE_BYTES - 1) / PIECE_BYTES
+    bytes.div_ceil(PIECE_BYTES)
 }
 
 // Fills the whole key, and returns how many full calls were made.
@@ -22,22 +22,12 @@ pub fn squeeze(s: &mut [u64; 16], key: &mut [u8], mixer: Mixer) -> u64
     ensures { (key.new ≡ key_bytes (sum_of mixer) (length key.old) s.old) × (s.new ≡ squeezed (sum_of mixer) (length key.old) s.old) × (result ≡ calls_between (length key.old)) }
 {
     let mut calls = 0;
-    let mut i = 0;
-    while i < key.len() {
+    for (i, byte) in key.iter_mut().enumerate() {
         let next = next_byte(s, i, mixer);
-        key[i] = next.byte;
+        *byte = next.byte;
         calls += next.calls;
-        i += 1;
     }
     calls
-}
-
-// The bits in which stored bytes and the key differ, with those of byte i added.
-pub fn differing(difference: u8, stored: &[u8], i: usize, byte: u8) -> u8
-    requires { i < length stored.now }
-    ensures { result ≡ bit_or difference (bit_xor (get_or stored.now i 0) byte) }
-{
-    difference | (stored[i] ^ byte)
 }
 
 // Whether a stored key is the key, with the full calls that were made to tell.
@@ -54,12 +44,10 @@ pub fn compare(s: &mut [u64; 16], stored: &[u8], mixer: Mixer) -> Comparison
 {
     let mut difference: u8 = 0;
     let mut calls = 0;
-    let mut i = 0;
-    while i < stored.len() {
+    for (i, byte) in stored.iter().enumerate() {
         let next = next_byte(s, i, mixer);
-        difference = differing(difference, stored, i, next.byte);
+        difference |= *byte ^ next.byte;
         calls += next.calls;
-        i += 1;
     }
     Comparison {
         same: difference == 0,

@@ -15,13 +15,11 @@ const WORD_BYTES: usize = 8;
 pub const PIECE_BYTES: usize = WORD_BYTES * Profile::CELL_WORDS;
 
 // The full call between two pieces: it is made before the first byte of each piece but the first.
+#[tactic(auto, using(crate::proofs::KeyLaws::no_call, crate::proofs::KeyLaws::one_call), unfolding(crate::specs::KeyBytes::pieces))]
 fn call_between(s: &mut [u64; 16], i: usize, mixer: Mixer) -> u64
     ensures { (s.new ≡ full_calls (sum_of mixer) (calls_before i) s.old) × (result ≡ calls_before i) }
 {
-    if i % PIECE_BYTES != 0 {
-        return 0;
-    }
-    if i == 0 {
+    if i == 0 || i % PIECE_BYTES != 0 {
         return 0;
     }
     full_call(s, mixer);
@@ -29,6 +27,7 @@ fn call_between(s: &mut [u64; 16], i: usize, mixer: Mixer) -> u64
 }
 
 // A byte of the output.
+#[tactic(auto, using(crate::proofs::KeyLaws::piece_at))]
 fn output_byte(s: &[u64; 16], i: usize) -> u8
     requires { i < piece_bytes }
     ensures { result ≡ get_or (piece s.now) i 0 }

@@ -20,14 +20,13 @@ pub fn lane_column(s: &mut [u64; 16], m: &mut [u64], rows: Starts, col: Column, 
 {
     // The word that picks col1 of a visit by one sponge picks the column of prev0 here.
     let picks = pick_columns(s, p);
-    let mixer = p.mixer;
     duplex_sum3(
         s,
         cell(m, rows.row0, col),
         cell(m, rows.prev0, picks.col1),
         cell(m, rows.row1, col),
         p.rounds,
-        mixer,
+        p.mixer,
     );
     let at = rows.row0.cell_start(col);
     let rand = output(s);

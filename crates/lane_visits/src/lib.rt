@@ -5,12 +5,13 @@ ghost use Rattle.std.specs.Prelude.{◌≡◌, ◌*◌, ◌+◌, ◌/◌, ◌%�
 ghost use Rattle.settings.specs.Settings.{settings};
 ghost use Rattle.columns.specs.Bounds.{starts_of, Within};
 ghost use Rattle.columns.specs.Columns.{work};
-ghost use Rattle.lanes.specs.LaneVisits.{half_row, picked_lane_rows, visited_row, visit_of, visits_of, lane_walk};
+ghost use Rattle.lanes.specs.LaneVisits.{half_row, picked_lane_rows, visited_row, visit_of, visits_of};
+ghost use Rattle.lanes.specs.LaneLists.{walk};
 ghost use Rattle.lanes.specs.Room.{Room};
 
 use columns::{Rows, Starts};
 use lane_columns::lane_column;
-use lanes::Shape;
+use lanes::Lane;
 use picks::{picked, place_after};
 use places::{Column, Row};
 use settings::Parameters;
@@ -21,12 +22,10 @@ fn visit_row(s: &mut [u64; 16], m: &mut [u64], rows: Rows, p: Parameters) -> u64
     ensures { (result ≡ p.columns) × (work s.new m.new ≡ visited_row (settings p) rows (work s.old m.old)) }
 {
     let starts = Starts::of(rows, p.columns);
-    let mut calls: u64 = 0;
-    let mut col = 0;
-    while col < p.columns {
+    let mut calls = 0;
+    for col in 0..p.columns {
         lane_column(s, m, starts, Column(col), p);
         calls += 1;
-        col += 1;
     }
     calls
 }
@@ -39,76 +38,56 @@ fn half_row(n: usize, i: usize, t: usize, x: usize) -> usize
     i * n + (t % 2 * (n / 2) + x)
 }
 
-// The rows that lane i picks from its output in interval t, with the one that it visited before.
-fn pick_rows(s: &[u64; 16], prev0: usize, lanes: Shape, t: usize, i: usize, p: Parameters) -> Rows
-    requires { (4 ≤ lanes.rows) × (lanes.lanes * lanes.rows < 2 ^ 31) × (i < lanes.lanes) × (t < 2 ^ 32) }
-    ensures { (result ≡ picked_lane_rows (settings p) lanes.lanes lanes.rows t i s.now prev0) × (result.row0.0 < lanes.lanes * lanes.rows) × (result.row1.0 < lanes.lanes * lanes.rows) }
+// A lane's turn: lane i of so many with so many rows each, in interval t.
+#[derive(Clone, Copy)]
+pub struct Turn {
+    pub lanes: usize,
+    pub rows: usize,
+    pub i: usize,
+    pub t: usize,
+    pub ghost among: { i < lanes },
+    pub ghost early: { t < 2 ^ 32 },
+}
+
+// The rows that a lane picks from its output, with the one that it visited before.
+fn pick_rows(lane: &Lane, turn: Turn, p: Parameters) -> Rows
+    requires { (4 ≤ turn.rows) × (turn.lanes * turn.rows < 2 ^ 31) }
+    ensures { (result ≡ picked_lane_rows (settings p) turn.lanes turn.rows turn.t turn.i lane.now.state lane.now.prev) × (result.row0.0 < turn.lanes * turn.rows) × (result.row1.0 < turn.lanes * turn.rows) }
 {
-    let n = lanes.rows;
+    let s = &lane.state;
+    let n = turn.rows;
     let second = place_after(0, p.rotation);
     let third = place_after(second, p.rotation);
-    let row0 = Row(half_row(n, i, t, picked(s[0], n / 2)));
-    let lane = picked(s[third], lanes.lanes);
-    let row1 = Row(half_row(n, lane, t + 1, picked(s[second], n / 2)));
+    let row0 = Row(half_row(n, turn.i, turn.t, picked(s[0], n / 2)));
+    let other = picked(s[third], turn.lanes);
+    let row1 = Row(half_row(n, other, turn.t + 1, picked(s[second], n / 2)));
+    let prev = Row(lane.prev);
     Rows {
         row0,
         row1,
-        prev0: Row(prev0),
-        prev1: Row(prev0),
+        prev0: prev,
+        prev1: prev,
     }
 }
 
-// What visits of a lane leave: the row that was visited last, and the reduced calls that were made.
-#[derive(Clone, Copy)]
-pub struct LaneVisited {
-    pub row0: usize,
-    pub calls: u64,
-}
-
-// One visit.
-fn visit(
-    s: &mut [u64; 16],
-    m: &mut [u64],
-    prev0: usize,
-    lanes: Shape,
-    t: usize,
-    i: usize,
-    p: Parameters,
-) -> LaneVisited
-    requires { Room p.columns lanes.lanes lanes.rows (length m.old) × (i < lanes.lanes) × (t < 2 ^ 32) × (prev0 < lanes.lanes * lanes.rows) }
-    ensures { (result.calls ≡ p.columns) × (result.row0 < lanes.lanes * lanes.rows) × (lane_walk (work s.new m.new) result.row0 ≡ visit_of (settings p) lanes.lanes lanes.rows t i (lane_walk (work s.old m.old) prev0)) }
+// One visit. The answer counts the reduced calls.
+fn visit(lane: &mut Lane, m: &mut [u64], turn: Turn, p: Parameters) -> u64
+    requires { Room p.columns turn.lanes turn.rows (length m.old) × (lane.old.prev < turn.lanes * turn.rows) }
+    ensures { (result ≡ p.columns) × (lane.new.prev < turn.lanes * turn.rows) × (walk lane.new m.new ≡ visit_of (settings p) turn.lanes turn.rows turn.t turn.i (walk lane.old m.old)) }
 {
-    let rows = pick_rows(s, prev0, lanes, t, i, p);
-    let calls = visit_row(s, m, rows, p);
-    let row0 = rows.row0;
-    LaneVisited {
-        row0: row0.0,
-        calls,
-    }
+    let rows = pick_rows(lane, turn, p);
+    lane.prev = rows.row0.0;
+    visit_row(&mut lane.state, m, rows, p)
 }
 
-// So many visits of lane i in interval t.
-pub fn visit_lane(
-    s: &mut [u64; 16],
-    m: &mut [u64],
-    prev0: usize,
-    lanes: Shape,
-    t: usize,
-    i: usize,
-    count: usize,
-    p: Parameters,
-) -> LaneVisited
-    requires { Room p.columns lanes.lanes lanes.rows (length m.old) × (i < lanes.lanes) × (t < 2 ^ 32) × (prev0 < lanes.lanes * lanes.rows) × (count * p.columns < 2 ^ 63) }
-    ensures { (result.calls ≡ count * p.columns) × (result.row0 < lanes.lanes * lanes.rows) × (lane_walk (work s.new m.new) result.row0 ≡ visits_of (settings p) lanes.lanes lanes.rows t i count (lane_walk (work s.old m.old) prev0)) }
+// So many visits. The answer counts the reduced calls.
+pub fn visit_lane(lane: &mut Lane, m: &mut [u64], turn: Turn, count: usize, p: Parameters) -> u64
+    requires { Room p.columns turn.lanes turn.rows (length m.old) × (lane.old.prev < turn.lanes * turn.rows) × (count * p.columns < 2 ^ 63) }
+    ensures { (result ≡ count * p.columns) × (lane.new.prev < turn.lanes * turn.rows) × (walk lane.new m.new ≡ visits_of (settings p) turn.lanes turn.rows turn.t turn.i count (walk lane.old m.old)) }
 {
-    let mut row0 = prev0;
-    let mut calls: u64 = 0;
-    let mut k = 0;
-    while k < count {
-        let v = visit(s, m, row0, lanes, t, i, p);
-        row0 = v.row0;
-        calls += v.calls;
-        k += 1;
+    let mut calls = 0;
+    for _ in 0..count {
+        calls += visit(lane, m, turn, p);
     }
-    LaneVisited { row0, calls }
+    calls
 }

@@ -2,8 +2,9 @@
 use mathlib.Core.Path.{◌≡◌, refl, sym, ap, ap₂, ◌∙◌}
 use mathlib.Core.Logic.{◌⊎◌, inl, inr}
 use Prim.Native.Nat.{ℕ, zero, suc, ◌+◌, ◌-◌, ◌*◌, ◌/◌, ◌≤◌, ◌<◌, min}
-use native.Mathlib.Nat.{add-zero, add-suc, mul-le-mul, le_trans, mul-le-mul_right, mul-le-mul_left, one-mul, mul-one, mul-add, add-mul, suc-mul}
+use native.Mathlib.Nat.{add-zero, add-suc, mul-le-mul, le_trans, mul-le-mul_right, mul-le-mul_left, one-mul, zero-mul, mul-add, add-mul}
 use native.Mathlib.Decide.{ℕ_discrete, dec_lt}
+use native.Mathlib.Numerals.{add-one}
 use native.Mathlib.Omega.{arith}
 use mathlib.Core.List.{List, []}
 use lib.ListN.{length, set}
@@ -60,14 +61,14 @@ below_set {R} xs i x h lt j =
 -- ---- visits
 
 module _ (sqrt : ℕ) where
-  -- the next interval begins sqrt visits later, and the second one after sqrt + 1
-  pub visit-first : first_visit sqrt 1 ≡ sqrt + 1
+  -- the last visit of an interval is before that with which the next one begins
+  pub visit_end : (t : ℕ) → (t + 1) * sqrt + 1 ≡ first_visit sqrt (t + 1)
   unfolding first_visit
-  visit-first = ap (λ (n : ℕ). n + 1) (one-mul sqrt)
+  visit_end t = rw (add-one t)
 
-  pub visit_next : (t : ℕ) → first_visit sqrt (suc (suc t)) ≡ first_visit sqrt (suc t) + sqrt
+  pub visit-zero : first_visit sqrt 0 ≡ 0
   unfolding first_visit
-  visit_next t = omega (arith, suc-mul (suc t) sqrt)
+  visit-zero = refl
 
   pub visit-later : (t i : ℕ) → t ≤ i → first_visit sqrt t ≤ first_visit sqrt i
   unfolding first_visit
@@ -75,33 +76,22 @@ module _ (sqrt : ℕ) where
   visit-later (suc t) zero le = absurd (omega arith)
   visit-later (suc t) (suc i) le = omega (arith, mul-le-mul_right sqrt le)
 
-  -- as many visits as intervals, at least, and no more than sqrt + 1 in one
-  pub visit_least : 1 ≤ sqrt → (t : ℕ) → t ≤ first_visit sqrt t
+  -- so many intervals have all visits
+  pub visits_reached : (all k : ℕ) → all ≤ k * sqrt → all ≤ first_visit sqrt k
   unfolding first_visit
-  visit_least pos zero = omega arith
-  visit_least pos (suc t) = omega (arith, mul-le-mul_left (suc t) pos, mul-one (suc t))
+  visits_reached all zero h = omega (arith, zero-mul sqrt)
+  visits_reached all (suc k) h = omega arith
 
-  visit-zero : first_visit sqrt 0 ≡ 0
-  unfolding first_visit
-  visit-zero = refl
+-- an interval has the steps from its first one on, of which there are none past the last of all
+pub steps_between : (a b all first end : ℕ) → first ≡ min a all → end ≡ min b all → end - first ≡ min b all - a
+steps_between a b all first end e f = omega arith
 
-  pub visit_steps : 1 ≤ sqrt → (t : ℕ) → (first_visit sqrt t < first_visit sqrt (suc t)) × (first_visit sqrt (suc t) ≤ first_visit sqrt t + sqrt + 1)
-  visit_steps pos zero = omega (arith, visit-first, visit-zero)
-  visit_steps pos (suc t) = omega (arith, visit_next t)
-
--- the calls of two stretches, and what one interval adds
-calls_added : (p C a b : ℕ) → a ≤ b → p * (a * C) + p * ((b - a) * C) ≡ p * (b * C)
-calls_added p C a b le =
+-- its calls, beside those of the steps before it
+pub calls_so_far : (lanes now C first end sum calls : ℕ) → now ≡ lanes → first ≤ end → sum ≡ lanes * (first * C) → calls ≡ now * ((end - first) * C) → sum + calls ≡ lanes * (end * C)
+calls_so_far p now C a b sum calls as_many le e f =
     let whole : a + (b - a) ≡ b = omega arith in
-    sym (mul-add p (a * C) ((b - a) * C)) ∙ ap (λ (n : ℕ). p * n) (sym (add-mul a (b - a) C) ∙ ap (λ (n : ℕ). n * C) whole)
-
-module _ (lanes C first next all sum end calls : ℕ) (before : first < all) (later : first < next) (inv : sum ≡ lanes * (min first all * C)) (at : end ≡ min next all)
-    (more : calls ≡ lanes * ((end - first) * C)) where
-  pub added : sum + calls ≡ lanes * (min next all * C)
-  added =
-      let here : min first all ≡ first = omega arith in
-      let ordered : first ≤ end = omega arith in
-      ap₂ (λ (x y : ℕ). x + y) (inv ∙ ap (λ (n : ℕ). lanes * (n * C)) here) more ∙ calls_added lanes C first end ordered ∙ ap (λ (n : ℕ). lanes * (n * C)) at
+    ap₂ (λ (x y : ℕ). x + y) e (f ∙ ap (λ (n : ℕ). n * ((b - a) * C)) as_many)
+    ∙ sym (mul-add p (a * C) ((b - a) * C)) ∙ ap (λ (n : ℕ). p * n) (sym (add-mul a (b - a) C) ∙ ap (λ (n : ℕ). n * C) whole)
 
 -- lanes without a visit
 pub visits_none : (S : Settings) (p n t : ℕ) (l : Lanes) → visits_in_turn S p n t 0 l ≡ l

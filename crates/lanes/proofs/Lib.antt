@@ -4,3 +4,4 @@ pub mod InTurn
 pub mod AnyOrder
 pub mod TwoLanes
 pub mod VisitsOrder
+pub mod LaneSteps

@@ -5,3 +5,4 @@ pub mod LaneSetup
 pub mod LaneVisits
 pub mod Room
 pub mod Orders
+pub mod LaneLists

@@ -3,8 +3,9 @@ use mathlib.Core.Path.{◌≡◌, refl, ap, ◌∙◌}
 use Prim.Native.Nat.{ℕ, zero, suc, ◌+◌, ◌*◌, ◌/◌, ◌%◌, ◌≤◌}
 use native.Mathlib.Nat.{mul-le-mul, mul-add, mul-one, le_trans}
 use native.Mathlib.Omega.{arith}
-use mathlib.Core.List.{List, ◌∷◌, ◌++◌}
-use lib.ListN.{length, take, drop, replicate, length-replicate, length-append, length-drop}
+use mathlib.Core.List.{List, ◌∷◌}
+use Rattle.std.proofs.lemmas.List.{take-replicate}
+use lib.ListN.{length, take, replicate, length-replicate}
 use Rattle.settings.specs.Settings.{Settings, settings, usual}
 use Rattle.settings.specs.declared.Parameters.{Parameters}
 use Rattle.settings.specs.declared.StoredParameters.{StoredParameters}
@@ -23,6 +24,8 @@ use Rattle.lane_keys.proofs.LaneBytes.{length_keys}
 use Rattle.lanes_derivation.specs.LanesDerivation.{lanes_key_of}
 use Rattle.lanes_derivation.proofs.LanesCounted.{blocks_most}
 use Rattle.lanes_derivation.proofs.Evenly.{evenly}
+use Rattle.lanes.specs.LaneLists.{states_of}
+use Rattle.lanes.specs.declared.Lane.{Lane}
 use Rattle.lane_runs.specs.LaneRuns.{Fits}
 use Rattle.profile.specs.Profile.{start}
 use Rattle.lanes_deriving.specs.Over.{Begins}
@@ -134,19 +137,15 @@ module _ (l : Lengths) (q : StoredParameters) (lanes : ℕ) where
   cost_yes none usually spent = answered-yes _ _ none (spent ∙ (λ i. spent_on (settings (usually i)) (lanes_full_cost lanes l) (reduced_cost (settings (usually i)))))
 
 -- the lanes at their start, of the eight that there is room for
-first_of_many : {A : Type 0} (n m : ℕ) (a : A) → n ≤ m → take n (replicate m a) ≡ replicate n a
-first_of_many zero m a le = refl
-first_of_many (suc n) zero a le = absurd (omega arith)
-first_of_many (suc n) (suc m) a le = ap (λ (l : List _). a ∷ l) (first_of_many n m a (omega arith))
+begun_all : (n : ℕ) (x : Lane) → states_of (replicate n x) ≡ replicate n x.state
+begun_all zero x = refl
+begun_all (suc n) x = ap (λ (l : List (List ℕ)). x.state ∷ l) (begun_all n x)
 
-pub begun : {A : Type 0} (n : ℕ) (a b : A) → a ≡ b → n ≤ 8 → take n (replicate 8 a) ≡ replicate n b
-begun {A} n a b e le = ap (λ (x : A). take n (replicate 8 x)) e ∙ first_of_many n 8 b le
+pub begun_states : (n : ℕ) (x : Lane) → x.state ≡ start → n ≤ 8 → states_of (take n (replicate 8 x)) ≡ replicate n start
+begun_states n x e le = ap states_of (take-replicate n 8 x le) ∙ begun_all n x ∙ ap (replicate n) e
 
-pub begun_length : {A : Type 0} (n : ℕ) (a : A) → n ≤ 8 → length (take n (replicate 8 a)) ≡ n
-begun_length n a le = ap length (first_of_many n 8 a le) ∙ length-replicate n a
-
-pub all_eight : {A : Type 0} (n : ℕ) (xs : List A) (a : A) → length xs ≡ n → n ≤ 8 → 8 ≡ length (xs ++ drop n (replicate 8 a))
-all_eight n xs a e le = omega (arith, length-append xs (drop n (replicate 8 a)), length-drop n (replicate 8 a), length-replicate 8 a)
+pub begun_length : (n : ℕ) (x : Lane) → n ≤ 8 → length (take n (replicate 8 x)) ≡ n
+begun_length n x le = ap length (take-replicate n 8 x le) ∙ length-replicate n x
 
 -- costs whose number of the refusal, which is 0, went through the clearing
 pub costs_again : (c : Costs) {kept : ℕ} (S : Settings) (full reduced : ℕ) → c ≡ spent_on S full reduced → kept ≡ 0
@@ -159,11 +158,11 @@ unfolding spent_on
 no_refusal S full reduced e = ap (λ (c : Costs). c.refusal) e
 
 -- what a run of the lanes is asked with
-pub begins : (l : Lengths) (q : StoredParameters) (lanes words : ℕ) {P : Parameters} {states : List (List ℕ)} {prevs : List ℕ} → first (lanes_checks l q lanes words) ≡ 0 → P ≡ usual q
-    → states ≡ replicate lanes start → length prevs ≡ lanes → Begins l P lanes words states prevs
-begins l q lanes words none usually states prevs =
+pub begins : (l : Lengths) (q : StoredParameters) (lanes words : ℕ) {P : Parameters} {states : List (List ℕ)} → first (lanes_checks l q lanes words) ≡ 0 → P ≡ usual q
+    → states ≡ replicate lanes start → Begins l P lanes words states
+begins l q lanes words none usually states =
     let b = bounded l q lanes (roomy l q lanes words none).0 in
-    record { fits = rw usually (fits_of l q lanes words none); key_least = b.key_least; key_most = b.key_most; rounds_most = rw usually (omega arith); states_are = states; as_many = prevs }
+    record { fits = rw usually (fits_of l q lanes words none); key_least = b.key_least; key_most = b.key_most; rounds_most = rw usually (omega arith); states_are = states }
 
 pub lanes_few : (l : Lengths) (q : StoredParameters) (lanes words : ℕ) → first (lanes_checks l q lanes words) ≡ 0 → lanes ≤ 8
 lanes_few l q lanes words none = (bounded l q lanes (roomy l q lanes words none).0).lanes_most

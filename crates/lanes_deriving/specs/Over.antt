@@ -16,13 +16,12 @@ use Rattle.lanes_derivation.specs.LanesDerivation.{lanes_key_of}
 use Rattle.lane_runs.specs.LaneRuns.{Fits}
 
 -- every lane is at its start
-pub record Begins (l : Lengths) (p : Parameters) (lanes words : ℕ) (states : List (List ℕ)) (prevs : List ℕ) : Type 0 where
+pub record Begins (l : Lengths) (p : Parameters) (lanes words : ℕ) (states : List (List ℕ)) : Type 0 where
   pub fits : Fits l p lanes words
   pub key_least : 1 ≤ l.key
   pub key_most : l.key ≤ 1024
   pub rounds_most : p.rounds ≤ 12
   pub states_are : states ≡ replicate lanes start
-  pub as_many : length prevs ≡ lanes
 
 -- a key of as many bytes as the input says: in the lent key, and compared with a stored one that is as long
 pub record Takes (p : Parameters) (lanes : ℕ) (x : Input) (key stored matrix key' matrix' : List ℕ) (r : Checked) : Type 0 where

@@ -9,6 +9,7 @@ ghost use Rattle.refusals.specs.Checks.{first, lanes_cost_checks};
 ghost use Rattle.derivation.specs.Answers.{flag};
 ghost use Rattle.lanes_derivation.specs.LanesCosts.{lanes_costs, lanes_answer};
 ghost use Rattle.lanes_derivation.specs.LanesContracts.{lanes_number, LanesDerived, LanesCompared};
+ghost use Rattle.lanes.specs.LaneLists.{states_of};
 ghost use Rattle.lanes_deriving.specs.Over.{Begins, Takes};
 
 use checking::Checked;
@@ -17,6 +18,7 @@ use costs::{reduced_calls, refused, spent};
 use derivation::Costs;
 use lane_keys::take_key;
 use lane_runs::run_lanes;
+use lanes::Lane;
 use lanes_refusals::{lanes_refusal, lanes_room_refusal};
 use profile::Profile;
 use refusals::MAX_LANES;
@@ -29,41 +31,35 @@ const NUMBERS: usize = 8;
 const STACK_BLOCKS: usize = 16;
 
 // Zeros in every lane's state; the answer is the number that is given.
-fn clear_states(states: &mut [[u64; 16]], number: u64) -> u64
-    ensures { (result ≡ number) × ((i : ℕ) → i < length states.old → get_or states.new i [] ≡ replicate state_words 0) }
+fn clear_states(lanes: &mut [Lane], number: u64) -> u64
+    ensures { (result ≡ number) × ((i : ℕ) → i < length lanes.old → get_or (states_of lanes.new) i [] ≡ replicate state_words 0) }
 {
     let mut kept = number;
-    let mut i = 0;
-    while i < states.len() {
-        kept = clear_state(&mut states[i], kept);
-        i += 1;
+    for lane in lanes.iter_mut() {
+        kept = clear_state(&mut lane.state, kept);
     }
     kept
 }
 
-// The run and the key, over the lanes' states and rows.
+// The run and the key, over the lanes.
 fn take_over(
-    states: &mut [[u64; 16]],
-    prevs: &mut [usize],
+    lanes: &mut [Lane],
     password: &[u8],
     salt: &[u8],
     p: Parameters,
-    lanes: usize,
     bytes: usize,
     key: &mut [u8],
     stored: &[u8],
     matrix: &mut [u64],
 ) -> Checked
-    requires { Begins (lengths (input password.now salt.now bytes)) p lanes (length matrix.old) states.old prevs.old }
-    ensures { Takes p lanes (input password.now salt.now bytes) key.old stored.now matrix.old key.new matrix.new result }
+    requires { Begins (lengths (input password.now salt.now bytes)) p (length lanes.old) (length matrix.old) (states_of lanes.old) }
+    ensures { Takes p (length lanes.old) (input password.now salt.now bytes) key.old stored.now matrix.old key.new matrix.new result }
 {
-    let mixer = p.mixer;
-    let ran = run_lanes(states, prevs, password, salt, bytes, p, lanes, matrix);
-    let c = take_key(states, lanes, bytes, key, stored, mixer);
-    let costs = spent(ran.full + c.calls, ran.reduced, p);
+    let ran = run_lanes(lanes, password, salt, bytes, p, matrix);
+    let taken = take_key(lanes, bytes, key, stored, p.mixer);
     Checked {
-        costs,
-        same: c.same,
+        costs: spent(ran.full + taken.calls, ran.reduced, p),
+        same: taken.same,
     }
 }
 
@@ -84,31 +80,25 @@ fn take_accepted(
     ensures { Takes (usual q) lanes (input password.now salt.now bytes) key.old stored.now matrix.old key.new matrix.new result }
 {
     let p = Parameters::usual(q);
-    let mut states = [Profile::start(); MAX_LANES];
-    let mut prevs = [0; MAX_LANES];
+    let mut all = [Lane {
+        state: Profile::start(),
+        prev: 0,
+    }; MAX_LANES];
     let done = take_over(
-        &mut states[..lanes],
-        &mut prevs[..lanes],
+        &mut all[..lanes],
         password,
         salt,
         p,
-        lanes,
         bytes,
         key,
         stored,
         matrix,
     );
-    let spent = done.costs;
     let costs = Costs {
-        refusal: clear_states(&mut states, 0) as u32,
-        full: spent.full,
-        reduced: spent.reduced,
-        rounds: spent.rounds,
+        refusal: clear_states(&mut all, 0) as u32,
+        ..done.costs
     };
-    Checked {
-        costs,
-        same: done.same,
-    }
+    Checked { costs, ..done }
 }
 
 // The costs as they are, once the stack below is cleared.
@@ -118,9 +108,7 @@ fn clear_below(costs: Costs) -> Costs
 {
     Costs {
         refusal: clear_stack(STACK_BLOCKS, costs.refusal as u64) as u32,
-        full: costs.full,
-        reduced: costs.reduced,
-        rounds: costs.rounds,
+        ..costs
     }
 }
 
@@ -172,10 +160,9 @@ pub fn check_lanes(
     }
     let mut none: [u8; 0] = [];
     let done = take_accepted(password, salt, q, lanes, l.key, &mut none, stored, matrix);
-    let costs = clear_below(done.costs);
     Checked {
-        costs,
-        same: done.same,
+        costs: clear_below(done.costs),
+        ..done
     }
 }
 

@@ -17,6 +17,9 @@ pub fn absorb_last(s: &mut [u64; 16], m: &[u64], row0: Row, p: Parameters)
     requires { (1 ≤ p.columns) × (cell_words * (row0.0 * p.columns + p.columns) ≤ length m.now) }
     ensures { s.new ≡ last_absorbed (settings p) row0.0 (work s.old m.now) }
 {
-    let mixer = p.mixer;
-    absorb_cell(s, cell(m, RowStart::of(row0, p.columns), Column(0)), mixer);
+    absorb_cell(
+        s,
+        cell(m, RowStart::of(row0, p.columns), Column(0)),
+        p.mixer,
+    );
 }

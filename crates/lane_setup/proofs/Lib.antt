@@ -1,0 +1,2 @@
+-- The intervals of Setup.
+pub mod Intervals

@@ -1,0 +1,2 @@
+-- The intervals of the visits.
+pub mod Intervals
