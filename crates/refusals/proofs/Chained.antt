@@ -2,13 +2,15 @@
 use mathlib.Core.Path.{◌≡◌, refl, sym, ap, ◌∙◌}
 use Prim.Native.Nat.{ℕ, ◌<◌}
 use native.Mathlib.Omega.{arith}
-use mathlib.Core.List.{List, ◌++◌}
+use mathlib.Core.Bool.{Bool, true, false, cond, ◌||◌}
+use mathlib.Core.List.{List, [], ◌∷◌, ◌++◌}
+use lib.Dec.{ltb}
 use Rattle.std.specs.Prelude.{Result, Err}
 use Rattle.std.specs.Result.{IsErr, IsErrAnd}
 use Rattle.std.proofs.lemmas.Result.{err_from_is_err_and}
 use Rattle.refusals.specs.declared.Refusal.{Refusal}
 use Rattle.refusals.specs.declared.Refusal.TheVariants.{KeyLength, PasswordLength, SaltTooShort, TimeCost, RowCount, ColumnCount, MatrixLength, RecordLength, SetupRow, SaltTooLong, LineForm, OutputLength, RoundCount, Rotation, TryCount, NothingFits, BookForm, NoAccount, BookLength, LaneCount}
-use Rattle.refusals.specs.Checks.{Check, first, answered}
+use Rattle.refusals.specs.Checks.{Bound, ◌≤?◌, Check, broken, first, answered}
 use Rattle.refusals.specs.Refusals.{number_of, answer_number}
 use Rattle.refusals.proofs.Answered.{answered-yes, answered_no}
 use Rattle.refusals.proofs.Accepted.{Numbered, more_refuse, more_pass}
@@ -43,6 +45,27 @@ module _ (cs ds : List Check) where
   -- none of them does
   pub passed : {n : ℕ} → Numbered cs → 0 ≡ first cs → n ≡ first ds → n ≡ first (cs ++ ds)
   passed h e f = more_pass cs ds e h refl f
+
+-- a check of several bounds is as two checks of one number
+module _ (n : ℕ) where
+  abbrev numbered : List Bound → Check
+  numbered bounds = record { number = n; bounds = bounds }
+
+  either : (a b : Bool) (r : ℕ) → cond (a || b) n r ≡ cond a n (cond b n r)
+  either true b r = refl
+  either false b r = refl
+
+  broken_joined : (earlier later : List Bound) → broken (earlier ++ later) ≡ (broken earlier || broken later)
+  broken_joined [] later = refl
+  broken_joined (x ≤? y ∷ earlier) later = ap (λ (b : Bool). ltb y x || b) (broken_joined earlier later) ∙ or_joined (ltb y x) (broken earlier) (broken later)
+    where
+      or_joined : (a b c : Bool) → (a || (b || c)) ≡ ((a || b) || c)
+      or_joined true b c = refl
+      or_joined false b c = refl
+
+  pub split : (earlier later : List Bound) (cs : List Check) → first (numbered earlier ∷ numbered later ∷ cs) ≡ first (numbered (earlier ++ later) ∷ cs)
+  unfolding first
+  split earlier later cs = sym (ap (λ (b : Bool). cond b n (first cs)) (broken_joined earlier later) ∙ either (broken earlier) (broken later) (first cs))
 
 -- what is answered beside the number of a refusal, and what where there is none
 pub answered_refused : {B : Type 0} {n : ℕ} (r : Refusal) → number_of r ≡ n → (a b : B) → b ≡ answered n a b
