@@ -16,8 +16,7 @@ use Rattle.refusals.specs.Checks.{Accepted, first, lanes_cost_checks, lanes_chec
 use Rattle.refusals.proofs.Accepted.{accepted, cells_most}
 use Rattle.refusals.proofs.Answered.{answered-yes, answered_no}
 use Rattle.derivation.specs.Cost.{reduced_cost}
-use Rattle.derivation.specs.Answers.{spent_on, no_costs}
-use Rattle.derivation.specs.declared.Costs.{Costs}
+use Rattle.derivation.specs.Answers.{Costs, spent_on, no_costs}
 use Rattle.lanes_derivation.specs.LanesCosts.{lane_blocks, lanes_full_cost, lanes_costs, lanes_answer}
 use Rattle.lane_keys.proofs.LaneBytes.{length_keys}
 use Rattle.lanes_derivation.specs.LanesDerivation.{lanes_key_of}
