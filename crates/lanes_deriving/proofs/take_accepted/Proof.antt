@@ -3,7 +3,7 @@
 use mathlib.Core.Path.{sym, ◌∙◌}
 use native.Mathlib.Omega.{arith}
 use Rattle.profile.specs.Profile.{start}
-use Rattle.lanes_deriving.proofs.LanesEnds.{lanes_few, begun, begun_length, all_eight, begins, costs_again}
+use Rattle.lanes_deriving.proofs.LanesEnds.{lanes_few, begun, begun_length, all_eight, begins, counts_again}
 use Rattle.lanes_deriving.proofs.take_accepted.Statement.{statement}
 use Rattle.lanes_deriving.proofs.take_accepted.Tie as tie
 
@@ -27,7 +27,7 @@ returns c =
     let over = c.take_over-done in
     rw (sym c.usual-p.ensures)
     (record {
-      answer = costs_again over.result.costs _ _ _ over.ensures.answer c.clear_states.ensures.0;
+      answer = counts_again over.result.spent over.ensures.answer c.clear_states.ensures.0;
       key_is = over.ensures.key_is;
       same_is = over.ensures.same_is;
       matrix_is = over.ensures.matrix_is;
@@ -38,4 +38,4 @@ take_accepted_spec =
     tie.close
     (tie.spec (λ c κs. tt) (λ c κs. tt) (λ c. lanes_few _ _ _ _ c.requires) (λ c. sym (begun_length c.args.lanes c.start-states.result (lanes_few _ _ _ _ c.requires)))
     (λ c. lanes_few _ _ _ _ c.requires) (λ c. sym (begun_length c.args.lanes 0 (lanes_few _ _ _ _ c.requires))) take_over-requires slice_aggregate-clear_states
-    (λ c κs. tt) (omega arith) (omega arith) (omega arith) returns)
+    (λ c κs. tt) (omega arith) (omega arith) returns)

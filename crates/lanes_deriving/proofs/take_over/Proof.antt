@@ -30,7 +30,7 @@ add-spent c =
     let calls = full_is l a.lanes pre.key_least c.run_lanes-ran.ensures.full c.take_key-c.ensures.calls in
     omega (arith, calls, full_most l a.lanes pre.key_most pre.fits.password pre.fits.salt pre.fits.lanes_most)
 
-spent-requires : tie.Need-spent-costs-requires
+spent-requires : tie.Need-spent-spent-requires
 spent-requires c κs =
     let a = c.args in
     let pre = c.requires in
@@ -54,7 +54,7 @@ returns c =
     let calls = full_is l a.lanes pre.key_least run.full key.calls in
     let given = ap (keys_xored (sum_of a.p.mixer) a.lanes a.bytes) run.states_are in
     record {
-      answer = c.spent-costs.ensures ∙ ap₂ (spent_on (settings a.p)) calls run.reduced;
+      answer = c.spent-spent.ensures ∙ ap₂ (spent_on (settings a.p)) calls run.reduced;
       key_is = key.key_is ∙ ap (put_into a.key.now) given;
       same_is = λ e. key.same_is e ∙ ap (same_bytes a.stored.now) given;
       matrix_is = run.matrix_is;
