@@ -6,7 +6,7 @@ use Rattle.settings.specs.declared.StoredParameters.{StoredParameters}
 use Rattle.settings.specs.declared.Lengths.{Lengths}
 use Rattle.derivation.specs.Answers.{Costs}
 use Rattle.choice.specs.declared.Limits.{Limits}
-use Rattle.choice.specs.declared.Choice.{Choice}
+use Rattle.choice.specs.Choice.{Choice}
 use Rattle.line_form.specs.declared.LineValues.{LineValues}
 use Rattle.line_form.specs.declared.LineLength.{LineLength}
 use Rattle.accounts.specs.declared.BookAnswer.{BookAnswer}
