@@ -12,9 +12,8 @@ use Rattle.settings.specs.declared.Parameters.{Parameters}
 use Rattle.refusals.specs.Checks.{Check, first, refuses, between, password_check, rotation_check, matrix_check, stored_checks, cost_checks, plain_checks}
 use Rattle.refusals.proofs.Accepted.{accepted, accepts, kept, first_refused, first_passed, more_refuse, more_pass}
 use Rattle.input.specs.Input.{input, lengths}
-use Rattle.derivation.specs.Answers.{no_costs}
+use Rattle.derivation.specs.Answers.{Costs, no_costs}
 use Rattle.derivation.specs.Promises.{plain_number, Compared}
-use Rattle.derivation.specs.declared.Costs.{Costs}
 use Rattle.derivation.proofs.Answering.{answered_no, cost_no}
 use Rattle.little_endian.proofs.ByteLaws.{AllBytes, take_bytes}
 use Rattle.accounts.specs.Accounts.{Account, head_bytes, head_of, is_whole, entry_of, account_of}

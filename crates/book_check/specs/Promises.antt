@@ -3,7 +3,7 @@ use Rattle.std.specs.Prelude.{ℕ, List, length}
 use Rattle.settings.specs.Settings.{usual}
 use Rattle.input.specs.Input.{input}
 use Rattle.derivation.specs.Promises.{plain_number, ComparedBy}
-use Rattle.derivation.specs.declared.Costs.{Costs}
+use Rattle.derivation.specs.Answers.{Costs}
 use Rattle.accounts.specs.Accounts.{Account}
 use Rattle.accounts.specs.Book.{found}
 use Rattle.accounts.specs.Promises.{accounts_in, check_number}

@@ -4,9 +4,9 @@ use Rattle.mixer.specs.Mixers.{mixer_of}
 use Rattle.settings.specs.declared.Parameters.{Parameters}
 use Rattle.settings.specs.declared.StoredParameters.{StoredParameters}
 use Rattle.settings.specs.declared.Lengths.{Lengths}
-use Rattle.derivation.specs.declared.Costs.{Costs}
+use Rattle.derivation.specs.Answers.{Costs}
 use Rattle.choice.specs.declared.Limits.{Limits}
-use Rattle.choice.specs.declared.Choice.{Choice}
+use Rattle.choice.specs.Choice.{Choice}
 use Rattle.line_form.specs.declared.LineValues.{LineValues}
 use Rattle.line_form.specs.declared.LineLength.{LineLength}
 use Rattle.accounts.specs.declared.BookAnswer.{BookAnswer}

@@ -11,11 +11,10 @@ use Rattle.settings.specs.declared.Lengths.{Lengths}
 use Rattle.refusals.specs.Checks.{Check, Accepted, first, cost_checks, given_checks, tries_check, cells_check, choice_checks}
 use Rattle.refusals.proofs.Accepted.{accepted, accepts, alone, first_before, first_last, first_refused, more_pass, cells_most}
 use Rattle.refusals.proofs.Answered.{answered_is, answered_number}
-use Rattle.choice.specs.Choice.{triple, spends, cell_limit, cells, tried, time_for, chosen, no_choice, choice_number, choice_answer}
+use Rattle.choice.specs.Choice.{Choice, triple, spends, cell_limit, cells, tried, time_for, chosen, no_choice, choice_number, choice_answer}
 use Rattle.choice.specs.Fitting.{Within, Best, Fits, NothingFits, earlier_checks, shape_of}
 use Rattle.choice.specs.declared.Limits.{Limits}
 use Rattle.choice.specs.declared.Shape.{Shape}
-use Rattle.choice.specs.declared.Choice.{Choice}
 use Rattle.choice.proofs.GreatestLaws.{greatest_above}
 use Rattle.choice.proofs.LimitLaws.{limit_holds, limit_most}
 use Rattle.choice.proofs.TimeLaws.{spends_is}

@@ -1,16 +1,18 @@
 -- The choice of T, R and C within W words of a matrix and B rounds spent.
-use Rattle.std.specs.Prelude.{ℕ, zero, suc, ◌-◌, ◌*◌, ◌/◌, min, cond, ltb}
+use Rattle.std.specs.Prelude.{ℕ, zero, suc, ◌-◌, ◌*◌, ◌/◌, min, cond, ltb, Result, Ok, Err}
 use Rattle.mixer.specs.declared.Mixer.TheVariants.{Plain}
 use Rattle.profile.specs.Profile.{full_rounds, cell_words, usual_rotation}
 use Rattle.settings.specs.declared.Parameters.{Parameters}
 use Rattle.settings.specs.declared.Lengths.{Lengths}
 use Rattle.refusals.specs.Checks.{first, answered, min_rows, max_rows, max_columns, max_time, choice_checks}
+use Rattle.refusals.specs.declared.Refusal.{Refusal}
+use Rattle.refusals.specs.Refusals.{number_of}
 use Rattle.derivation.specs.Cost.{full_cost}
 use Rattle.derivation.specs.Answers.{costs}
 use Rattle.choice.specs.Greatest.{greatest}
 use Rattle.choice.specs.declared.Limits.{Limits}
 use Rattle.choice.specs.declared.Shape.{Shape}
-use Rattle.choice.specs.declared.Choice.{Choice}
+use Rattle.choice.specs.declared.ChosenCosts.{ChosenCosts}
 
 -- T, R and C with the planner's ρ. No cost depends on ω or on the mixer.
 abbrev pub triple : Limits → ℕ → ℕ → ℕ → Parameters
@@ -62,7 +64,14 @@ tried g = min g.tries max_columns
 unfoldable pub time_for : Lengths → Limits → Shape → ℕ
 time_for l g s = greatest (λ T. spends l g T s) g.budget 1 max_time
 
--- the answer also tells how many cells more any other triple may have
+-- 0 or the number of a refusal; T, R and C; and how many cells more any other triple that fits may have
+pub record Choice : Type 0 where
+  pub refusal : ℕ
+  pub time : ℕ
+  pub rows : ℕ
+  pub columns : ℕ
+  pub shortfall : ℕ
+
 abbrev pub answer_for : ℕ → ℕ → Shape → Choice
 answer_for U T s = record { refusal = 0; time = T; rows = s.rows; columns = s.columns; shortfall = U - cells s }
 
@@ -78,3 +87,12 @@ choice_number l g = first (choice_checks l g.rounds g.tries (cell_limit l g))
 
 unfoldable pub choice_answer : Lengths → Limits → Choice
 choice_answer l g = answered (choice_number l g) (chosen l g) (no_choice (choice_number l g))
+
+-- ---- the code's answers
+
+abbrev pub choice_of : ChosenCosts → Choice
+choice_of c = record { refusal = 0; time = c.time; rows = c.shape.rows; columns = c.shape.columns; shortfall = c.shortfall }
+
+abbrev pub chosen_answer : Result ChosenCosts Refusal → Choice
+chosen_answer (Ok c) = choice_of c
+chosen_answer (Err r) = no_choice (number_of r)

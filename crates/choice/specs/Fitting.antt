@@ -4,10 +4,9 @@ use Rattle.settings.specs.Settings.{settings}
 use Rattle.settings.specs.Sizes.{matrix_words}
 use Rattle.settings.specs.declared.Lengths.{Lengths}
 use Rattle.refusals.specs.Checks.{Check, first, cost_checks, given_checks, tries_check, min_rows, max_rows}
-use Rattle.choice.specs.Choice.{triple, spends, cells}
+use Rattle.choice.specs.Choice.{Choice, triple, spends, cells}
 use Rattle.choice.specs.declared.Limits.{Limits}
 use Rattle.choice.specs.declared.Shape.{Shape}
-use Rattle.choice.specs.declared.Choice.{Choice}
 
 -- the cost question accepts T, R and C, T is at least 1, and the matrix and the rounds stay within W and B
 pub record Fits (l : Lengths) (g : Limits) (T : ℕ) (s : Shape) : Type 0 where

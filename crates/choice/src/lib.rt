@@ -11,18 +11,16 @@ pub struct Limits {
 }
 
 // R and C.
-#[derive(Clone, Copy)]
+#[derive(Clone, Copy, PartialEq, Eq, Debug)]
 pub struct Shape {
     pub rows: usize,
     pub columns: usize,
 }
 
-// 0 or the number of a refusal; T, R and C; and how many cells more any other triple that fits may have.
-#[derive(Clone, Copy)]
-pub struct Choice {
-    pub refusal: u32,
+// T, R and C, and how many cells more any other triple that fits may have.
+#[derive(Clone, Copy, PartialEq, Eq, Debug)]
+pub struct ChosenCosts {
     pub time: usize,
-    pub rows: usize,
-    pub columns: usize,
+    pub shape: Shape,
     pub shortfall: usize,
 }

@@ -1,42 +1,30 @@
-// The costs of a call as its answer, and the cost question.
+// What a call spends, and the cost question.
 #![tactic(auto)]
 
 ghost use Rattle.std.specs.Prelude.{◌≡◌, ◌+◌, ◌*◌, ◌≤◌, ◌<◌, ◌^◌};
 ghost use Rattle.settings.specs.Settings.{settings};
 ghost use Rattle.refusals.specs.Checks.{first, length_checks, cost_checks, Accepted};
 ghost use Rattle.derivation.specs.Cost.{full_cost};
-ghost use Rattle.derivation.specs.Answers.{spent_on, no_costs, costs, cost_answer};
+ghost use Rattle.derivation.specs.Answers.{spent_on, cost_answer, costs_of, costs_answer};
 
-use derivation::Costs;
+use derivation::Spent;
 use profile::Profile;
-use refusals::cost_refusal;
+use refusals::{Refusal, check_costs};
 use settings::{Lengths, Parameters};
 
 // The numbers in the input.
 const NUMBERS: usize = 6;
 
-// The answer of a call that was carried out.
-pub fn spent(full: u64, reduced: u64, p: Parameters) -> Costs
+#[tactic(auto, unfolding(derivation::specs::Answers::spent_on))]
+// What so many full and reduced calls spend.
+pub fn spent(full: u64, reduced: u64, p: Parameters) -> Spent
     requires { (full < 2 ^ 32) × (reduced < 2 ^ 32) × (p.rounds ≤ 12) }
-    ensures { result ≡ spent_on (settings p) full reduced }
+    ensures { costs_of result ≡ spent_on (settings p) full reduced }
 {
-    Costs {
-        refusal: 0,
+    Spent {
         full,
         reduced,
         rounds: (Profile::FULL_ROUNDS as u64) * full + (p.rounds as u64) * reduced,
-    }
-}
-
-// The answer of a call that was turned down.
-pub fn refused(number: u32) -> Costs
-    ensures { result ≡ no_costs number }
-{
-    Costs {
-        refusal: number,
-        full: 0,
-        reduced: 0,
-        rounds: 0,
     }
 }
 
@@ -57,23 +45,12 @@ pub fn reduced_calls(cells: usize, time: usize) -> usize
     cells * times
 }
 
-// The cost of a call that no check refuses.
-fn cost_accepted(l: Lengths, p: Parameters) -> Costs
-    requires { Accepted (cost_checks l p) }
-    ensures { result ≡ costs l p }
+// The cost question: what a derivation spends, from the lengths of key, password and salt, T, R and C.
+pub fn cost(l: Lengths, p: Parameters) -> Result<Spent, Refusal>
+    ensures { costs_answer result ≡ cost_answer (first (cost_checks l p)) l p }
 {
+    check_costs(l, p)?;
     let full = full_calls(l);
     let reduced = reduced_calls(p.rows * p.columns, p.time);
-    spent(full, reduced as u64, p)
-}
-
-// The cost question: what a derivation spends, from the lengths of key, password and salt, T, R and C.
-pub fn cost(l: Lengths, p: Parameters) -> Costs
-    ensures { result ≡ cost_answer (first (cost_checks l p)) l p }
-{
-    let number = cost_refusal(l, p);
-    if number != 0 {
-        return refused(number);
-    }
-    cost_accepted(l, p)
+    Ok(spent(full, reduced as u64, p))
 }

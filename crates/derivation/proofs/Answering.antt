@@ -14,8 +14,10 @@ use Rattle.refusals.specs.Checks.{Accepted, length_checks, cost_checks}
 use Rattle.refusals.proofs.Accepted.{cells_most}
 use Rattle.refusals.proofs.Answered.{answered_number}
 pub use Rattle.refusals.proofs.Answered.{answered-yes, answered_no, answered_is}
-use Rattle.derivation.specs.Answers.{spent_on, no_costs, costs, cost_answer}
-use Rattle.derivation.specs.declared.Costs.{Costs}
+use Rattle.refusals.specs.declared.Refusal.{Refusal}
+use Rattle.refusals.specs.Refusals.{number_of}
+use Rattle.refusals.proofs.Chained.{number_above}
+use Rattle.derivation.specs.Answers.{Costs, spent_on, no_costs, costs, cost_answer}
 use Rattle.derivation.specs.Cost.{full_cost, reduced_cost, rounds_cost}
 
 pub full_most : (l : Lengths) → Accepted (length_checks l) → full_cost l ≤ 64
@@ -30,6 +32,9 @@ module _ (l : Lengths) (p : Parameters) where
   pub cost_yes : {n : ℕ} {r : Costs} → n ≡ 0 → r ≡ costs l p → r ≡ cost_answer n l p
   unfolding cost_answer
   cost_yes h f = answered-yes _ _ h f
+
+  pub cost_refused : {n : ℕ} (r : Refusal) → number_of r ≡ n → no_costs (number_of r) ≡ cost_answer n l p
+  cost_refused r e = cost_no e (λ z. omega (arith, number_above r)) refl
 
   -- the rounds spent, written out
   pub rounds_spent : (costs l p).rounds ≡ rounds_cost (settings p) (full_cost l) (reduced_cost (settings p))

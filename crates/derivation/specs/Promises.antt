@@ -9,9 +9,8 @@ use Rattle.settings.specs.declared.Parameters.{Parameters}
 use Rattle.input.specs.Input.{Input, lengths}
 use Rattle.key.specs.Key.{same_bytes}
 use Rattle.refusals.specs.Checks.{first, plain_checks, recorded_checks}
-use Rattle.derivation.specs.Answers.{answered, cost_answer, flag}
+use Rattle.derivation.specs.Answers.{Costs, answered, cost_answer, flag}
 use Rattle.derivation.specs.Derivation.{key_of, end_state, end_matrix, end_record}
-use Rattle.derivation.specs.declared.Costs.{Costs}
 
 -- the number of the first refusal, 0 where there is none
 abbrev pub plain_number : Parameters → Input → List ℕ → ℕ

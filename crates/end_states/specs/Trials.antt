@@ -5,7 +5,7 @@ use Rattle.settings.specs.Sizes.{matrix_words, record_words}
 use Rattle.settings.specs.declared.Parameters.{Parameters}
 use Rattle.input.specs.Input.{Input, input}
 use Rattle.derivation.specs.Promises.{Recorded}
-use Rattle.derivation.specs.declared.Costs.{Costs}
+use Rattle.derivation.specs.Answers.{Costs}
 use Rattle.end_states.specs.EndStates.{End}
 
 -- a call of the recorded derivation: its input, the lent buffers before it and after it, its answer. All that is known of it is that

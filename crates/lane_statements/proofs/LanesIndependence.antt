@@ -6,7 +6,7 @@ use lib.ListN.{length}
 use Rattle.settings.specs.declared.StoredParameters.{StoredParameters}
 use Rattle.input.specs.Input.{Input, lengths}
 use Rattle.refusals.specs.Checks.{first, lanes_checks}
-use Rattle.derivation.specs.declared.Costs.{Costs}
+use Rattle.derivation.specs.Answers.{Costs}
 use Rattle.lanes_derivation.specs.LanesCosts.{lanes_answer}
 use Rattle.lanes_derivation.specs.LanesContracts.{LanesDerived, LanesCompared}
 

@@ -6,8 +6,7 @@ use Rattle.settings.specs.declared.Lengths.{Lengths}
 use Rattle.input.specs.Input.{blocks}
 use Rattle.key.specs.Key.{pieces}
 use Rattle.derivation.specs.Cost.{reduced_cost}
-use Rattle.derivation.specs.Answers.{answered, spent_on, no_costs}
-use Rattle.derivation.specs.declared.Costs.{Costs}
+use Rattle.derivation.specs.Answers.{Costs, answered, spent_on, no_costs}
 
 -- the blocks of a lane's padded input, with its eight numbers
 unfoldable pub lane_blocks : Lengths → ℕ

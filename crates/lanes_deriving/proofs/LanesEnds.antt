@@ -3,10 +3,12 @@ use mathlib.Core.Path.{◌≡◌, refl, ap, ◌∙◌}
 use Prim.Native.Nat.{ℕ, zero, suc, ◌+◌, ◌*◌, ◌/◌, ◌%◌, ◌≤◌}
 use native.Mathlib.Nat.{mul-le-mul, mul-add, mul-one, le_trans}
 use native.Mathlib.Omega.{arith}
-use mathlib.Core.List.{List, ◌∷◌}
+use mathlib.Core.List.{List, [], ◌∷◌, ◌++◌}
 use Rattle.std.proofs.lemmas.List.{take-replicate}
-use lib.ListN.{length, take, replicate, length-replicate}
+use lib.ListN.{length, get_or, take, drop, replicate, length-replicate, length-append, length-drop}
+use Rattle.lists.specs.Zip.{cleared, zip_into}
 use Rattle.settings.specs.Settings.{Settings, settings, usual}
+use Rattle.settings.specs.Sizes.{matrix_words}
 use Rattle.settings.specs.declared.Parameters.{Parameters}
 use Rattle.settings.specs.declared.StoredParameters.{StoredParameters}
 use Rattle.settings.specs.declared.Lengths.{Lengths}
@@ -16,9 +18,12 @@ use Rattle.key.proofs.KeyLaws.{pieces_calls}
 use Rattle.refusals.specs.Checks.{Accepted, first, lanes_cost_checks, lanes_checks}
 use Rattle.refusals.proofs.Accepted.{accepted, cells_most}
 use Rattle.refusals.proofs.Answered.{answered-yes, answered_no}
+use Rattle.refusals.proofs.Chained.{number_above}
+use Rattle.refusals.specs.declared.Refusal.{Refusal}
+use Rattle.refusals.specs.Refusals.{number_of}
 use Rattle.derivation.specs.Cost.{reduced_cost}
-use Rattle.derivation.specs.Answers.{spent_on, no_costs}
-use Rattle.derivation.specs.declared.Costs.{Costs}
+use Rattle.derivation.specs.Answers.{Costs, spent_on, no_costs, costs_of}
+use Rattle.derivation.specs.declared.Spent.{Spent}
 use Rattle.lanes_derivation.specs.LanesCosts.{lane_blocks, lanes_full_cost, lanes_costs, lanes_answer}
 use Rattle.lane_keys.proofs.LaneBytes.{length_keys}
 use Rattle.lanes_derivation.specs.LanesDerivation.{lanes_key_of}
@@ -132,6 +137,9 @@ module _ (l : Lengths) (q : StoredParameters) (lanes : ℕ) where
   unfolding lanes_answer
   cost_no e h f = answered_no _ _ e h (f ∙ ap no_costs e)
 
+  pub cost_refused : {n : ℕ} (r : Refusal) → number_of r ≡ n → no_costs (number_of r) ≡ lanes_answer n l q lanes
+  cost_refused r e = cost_no e (λ z. omega (arith, number_above r)) refl
+
   pub cost_yes : {n : ℕ} {P : Parameters} {r : Costs} → n ≡ 0 → P ≡ usual q → r ≡ spent_on (settings P) (lanes_full_cost lanes l) (reduced_cost (settings P)) → r ≡ lanes_answer n l q lanes
   unfolding lanes_answer lanes_costs
   cost_yes none usually spent = answered-yes _ _ none (spent ∙ (λ i. spent_on (settings (usually i)) (lanes_full_cost lanes l) (reduced_cost (settings (usually i)))))
@@ -147,15 +155,31 @@ begun_states n x e le = ap states_of (take-replicate n 8 x le) ∙ begun_all n x
 pub begun_length : (n : ℕ) (x : Lane) → n ≤ 8 → length (take n (replicate 8 x)) ≡ n
 begun_length n x le = ap length (take-replicate n 8 x le) ∙ length-replicate n x
 
--- costs whose number of the refusal, which is 0, went through the clearing
-pub costs_again : (c : Costs) {kept : ℕ} (S : Settings) (full reduced : ℕ) → c ≡ spent_on S full reduced → kept ≡ 0
-    → record { refusal = kept; full = c.full; reduced = c.reduced; rounds = c.rounds } ≡ spent_on S full reduced
-unfolding spent_on
-costs_again c S full reduced e none = λ i. record { refusal = none i; full = (e i).full; reduced = (e i).reduced; rounds = (e i).rounds }
+-- counts of which one went through the clearing
+pub counts_again : (s : Spent) {kept : ℕ} {c : Costs} → costs_of s ≡ c → kept ≡ s.full → costs_of (record { full = kept; reduced = s.reduced; rounds = s.rounds }) ≡ c
+counts_again s e same = (λ i. record { refusal = 0; full = same i; reduced = s.reduced; rounds = s.rounds }) ∙ e
 
-pub no_refusal : {c : Costs} (S : Settings) (full reduced : ℕ) → c ≡ spent_on S full reduced → c.refusal ≡ 0
-unfolding spent_on
-no_refusal S full reduced e = ap (λ (c : Costs). c.refusal) e
+-- a zero is left in the matrix
+first_cleared : (n : ℕ) (xs : List ℕ) → 1 ≤ n → get_or (cleared n xs) 0 0 ≡ 0
+unfolding cleared zip_into
+first_cleared zero xs h = absurd (omega arith)
+first_cleared (suc n) [] h = refl
+first_cleared (suc n) (x ∷ xs) h = refl
+
+module _ (l : Lengths) (q : StoredParameters) (lanes words : ℕ) (none : first (lanes_checks l q lanes words) ≡ 0) where
+  matrix_some : 1 ≤ q.rows * q.columns
+  unfolding lanes_cost_checks
+  matrix_some =
+      let h = (roomy l q lanes words none).0 in
+      let rows : 1 ≤ q.rows = omega arith in
+      let columns : 1 ≤ q.columns = omega arith in
+      mul-le-mul rows columns
+
+  pub words_some : 1 ≤ words
+  words_some = omega (arith, matrix_some, (roomy l q lanes words none).1)
+
+  pub zero_left : (m : List ℕ) {m' : List ℕ} → m' ≡ cleared (matrix_words (settings (usual q))) m → get_or m' 0 0 ≡ 0
+  zero_left m e = ap (λ (xs : List ℕ). get_or xs 0 0) e ∙ first_cleared _ m (omega (arith, matrix_some))
 
 -- what a run of the lanes is asked with
 pub begins : (l : Lengths) (q : StoredParameters) (lanes words : ℕ) {P : Parameters} {states : List (List ℕ)} → first (lanes_checks l q lanes words) ≡ 0 → P ≡ usual q

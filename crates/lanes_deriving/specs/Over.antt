@@ -9,7 +9,7 @@ use Rattle.settings.specs.declared.Lengths.{Lengths}
 use Rattle.input.specs.Input.{Input, lengths}
 use Rattle.key.specs.Key.{same_bytes}
 use Rattle.derivation.specs.Cost.{reduced_cost}
-use Rattle.derivation.specs.Answers.{spent_on}
+use Rattle.derivation.specs.Answers.{spent_on, costs_of}
 use Rattle.checking.specs.declared.Checked.{Checked}
 use Rattle.lanes_derivation.specs.LanesCosts.{lanes_full_cost}
 use Rattle.lanes_derivation.specs.LanesDerivation.{lanes_key_of}
@@ -25,7 +25,7 @@ pub record Begins (l : Lengths) (p : Parameters) (lanes words : ℕ) (states : L
 
 -- a key of as many bytes as the input says: in the lent key, and compared with a stored one that is as long
 pub record Takes (p : Parameters) (lanes : ℕ) (x : Input) (key stored matrix key' matrix' : List ℕ) (r : Checked) : Type 0 where
-  pub answer : r.costs ≡ spent_on (settings p) (lanes_full_cost lanes (lengths x)) (reduced_cost (settings p))
+  pub answer : costs_of r.spent ≡ spent_on (settings p) (lanes_full_cost lanes (lengths x)) (reduced_cost (settings p))
   pub key_is : key' ≡ put_into key (lanes_key_of (settings p) lanes x matrix)
   pub same_is : length stored ≡ x.key_length → r.same ≡ same_bytes stored (lanes_key_of (settings p) lanes x matrix)
   pub matrix_is : matrix' ≡ cleared (matrix_words (settings p)) matrix

@@ -6,22 +6,23 @@ ghost use Rattle.profile.specs.Profile.{state_words};
 ghost use Rattle.settings.specs.Settings.{usual};
 ghost use Rattle.input.specs.Input.{input, lengths};
 ghost use Rattle.refusals.specs.Checks.{first, lanes_cost_checks};
-ghost use Rattle.derivation.specs.Answers.{flag};
-ghost use Rattle.lanes_derivation.specs.LanesCosts.{lanes_costs, lanes_answer};
+ghost use Rattle.derivation.specs.Answers.{costs_answer};
+ghost use Rattle.checking.specs.Answers.{checked_costs, checked_same};
+ghost use Rattle.lanes_derivation.specs.LanesCosts.{lanes_answer};
 ghost use Rattle.lanes_derivation.specs.LanesContracts.{lanes_number, LanesDerived, LanesCompared};
 ghost use Rattle.lanes.specs.LaneLists.{states_of};
 ghost use Rattle.lanes_deriving.specs.Over.{Begins, Takes};
 
 use checking::Checked;
 use clearing::{clear_stack, clear_state};
-use costs::{reduced_calls, refused, spent};
-use derivation::Costs;
+use costs::{reduced_calls, spent};
+use derivation::{Spent, lengths_of};
 use lane_keys::take_key;
 use lane_runs::run_lanes;
 use lanes::Lane;
-use lanes_refusals::{lanes_refusal, lanes_room_refusal};
+use lanes_refusals::check_lanes_room;
 use profile::Profile;
-use refusals::MAX_LANES;
+use refusals::{MAX_LANES, Refusal};
 use settings::{Lengths, Parameters, StoredParameters};
 
 // The numbers in a lane's input.
@@ -58,14 +59,14 @@ fn take_over(
     let ran = run_lanes(lanes, password, salt, bytes, p, matrix);
     let taken = take_key(lanes, bytes, key, stored, p.mixer);
     Checked {
-        costs: spent(ran.full + taken.calls, ran.reduced, p),
+        spent: spent(ran.full + taken.calls, ran.reduced, p),
         same: taken.same,
     }
 }
 
 // A call that no check refuses: the derivation of a key of so many bytes, which the lent key takes and which a stored one is compared with.
 // Derivation and check both call for it, so that it stays a function, whose part of the stack they clear when it has ended: what the compiler
-// keeps of the states lies there. The number of the refusal goes through the clearing of the states, which is so not left out.
+// keeps of the states lies there. The count of the full calls goes through the clearing of the states, which is so not left out.
 fn take_accepted(
     password: &[u8],
     salt: &[u8],
@@ -94,21 +95,21 @@ fn take_accepted(
         stored,
         matrix,
     );
-    let costs = Costs {
-        refusal: clear_states(&mut all, 0) as u32,
-        ..done.costs
+    let spent = Spent {
+        full: clear_states(&mut all, done.spent.full),
+        ..done.spent
     };
-    Checked { costs, ..done }
+    Checked { spent, ..done }
 }
 
-// The costs as they are, once the stack below is cleared.
-fn clear_below(costs: Costs) -> Costs
-    requires { costs.refusal ≡ 0 }
-    ensures { result ≡ costs }
+// The counts as they are, once the stack below is cleared, by a zero that the compiler does not know.
+fn clear_below(spent: Spent, zero: u64) -> Spent
+    requires { zero ≡ 0 }
+    ensures { result ≡ spent }
 {
-    Costs {
-        refusal: clear_stack(STACK_BLOCKS, costs.refusal as u64) as u32,
-        ..costs
+    Spent {
+        full: spent.full + clear_stack(STACK_BLOCKS, zero),
+        ..spent
     }
 }
 
@@ -120,21 +121,14 @@ pub fn derive_lanes(
     lanes: usize,
     key: &mut [u8],
     matrix: &mut [u64],
-) -> Costs
-    ensures { LanesDerived q lanes (input password.now salt.now (length key.old)) key.old matrix.old key.new matrix.new result }
+) -> Result<Spent, Refusal>
+    ensures { LanesDerived q lanes (input password.now salt.now (length key.old)) key.old matrix.old key.new matrix.new (costs_answer result) }
 {
-    let l = Lengths {
-        key: key.len(),
-        password: password.len(),
-        salt: salt.len(),
-    };
-    let number = lanes_room_refusal(l, q, lanes, matrix.len());
-    if number != 0 {
-        return refused(number);
-    }
+    let l = lengths_of(password, salt, key.len());
+    check_lanes_room(l, q, lanes, matrix.len())?;
     let none: [u8; 0] = [];
-    let done = take_accepted(password, salt, q, lanes, l.key, key, &none, matrix);
-    clear_below(done.costs)
+    let done = take_accepted(password, salt, q, lanes, key.len(), key, &none, matrix);
+    Ok(clear_below(done.spent, matrix[0]))
 }
 
 // Whether a stored key is the key of its length. The used matrix is left as zeros.
@@ -145,44 +139,32 @@ pub fn check_lanes(
     lanes: usize,
     stored: &[u8],
     matrix: &mut [u64],
-) -> Checked
-    ensures { LanesCompared q lanes (input password.now salt.now (length stored.now)) stored.now matrix.old matrix.new result.costs (flag result.same) }
+) -> Result<Checked, Refusal>
+    ensures { LanesCompared q lanes (input password.now salt.now (length stored.now)) stored.now matrix.old matrix.new (checked_costs result) (checked_same result) }
 {
-    let l = Lengths {
-        key: stored.len(),
-        password: password.len(),
-        salt: salt.len(),
-    };
-    let number = lanes_room_refusal(l, q, lanes, matrix.len());
-    if number != 0 {
-        let costs = refused(number);
-        return Checked { costs, same: false };
-    }
+    let l = lengths_of(password, salt, stored.len());
+    check_lanes_room(l, q, lanes, matrix.len())?;
     let mut none: [u8; 0] = [];
-    let done = take_accepted(password, salt, q, lanes, l.key, &mut none, stored, matrix);
-    Checked {
-        costs: clear_below(done.costs),
-        ..done
-    }
-}
-
-// The cost of a call that no check refuses.
-fn cost_accepted(l: Lengths, q: StoredParameters, lanes: usize) -> Costs
-    requires { first (lanes_cost_checks l q lanes) ≡ 0 }
-    ensures { result ≡ lanes_costs l q lanes }
-{
-    let each = input::block_count(l.password, l.salt, NUMBERS) + key::piece_count(l.key);
-    let reduced = reduced_calls(q.rows * q.columns, q.time);
-    spent((lanes * each) as u64, reduced as u64, Parameters::usual(q))
+    let done = take_accepted(
+        password,
+        salt,
+        q,
+        lanes,
+        stored.len(),
+        &mut none,
+        stored,
+        matrix,
+    );
+    let spent = clear_below(done.spent, matrix[0]);
+    Ok(Checked { spent, ..done })
 }
 
 // The cost question for several lanes.
-pub fn cost_lanes(l: Lengths, q: StoredParameters, lanes: usize) -> Costs
-    ensures { result ≡ lanes_answer (first (lanes_cost_checks l q lanes)) l q lanes }
+pub fn cost_lanes(l: Lengths, q: StoredParameters, lanes: usize) -> Result<Spent, Refusal>
+    ensures { costs_answer result ≡ lanes_answer (first (lanes_cost_checks l q lanes)) l q lanes }
 {
-    let number = lanes_refusal(l, q, lanes);
-    if number != 0 {
-        return refused(number);
-    }
-    cost_accepted(l, q, lanes)
+    lanes_refusals::check_lanes(l, q, lanes)?;
+    let each = input::block_count(l.password, l.salt, NUMBERS) + key::piece_count(l.key);
+    let reduced = reduced_calls(q.rows * q.columns, q.time);
+    Ok(spent((lanes * each) as u64, reduced as u64, Parameters::usual(q)))
 }

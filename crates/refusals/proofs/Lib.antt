@@ -1,3 +1,4 @@
 -- The laws of refusals.
 pub mod Accepted
 pub mod Answered
+pub mod Chained

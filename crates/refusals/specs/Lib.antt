@@ -1,2 +1,3 @@
 -- When a call is turned down.
 pub mod Checks
+pub mod Refusals

@@ -1,50 +1,44 @@
-// When a call is turned down: the number of the first check that refuses, in the operation's order. 0 is no refusal.
+// When a call is turned down: the first check that refuses, in the operation's order.
 #![tactic(auto)]
 
-ghost use Rattle.std.specs.Prelude.{◌≡◌, cond, [], ◌∷◌};
-ghost use Rattle.refusals.specs.Checks.{◌≤?◌, first, broken, between, cost_checks, stored_checks, walk_checks, rows_check};
+ghost use Rattle.std.specs.Prelude.{◌≡◌, [], ◌∷◌};
+ghost use Rattle.refusals.specs.Checks.{first, range, at_least, length_checks, cost_checks, stored_checks, walk_checks, rows_check};
+ghost use Rattle.refusals.specs.Refusals.{number_of, answer_number};
 
 use settings::{Lengths, Parameters, StoredParameters};
 
-pub const KEY_LENGTH: u32 = 1;
+// The check that turns a call down; a variant's number is the one that callers in C are told.
+#[derive(Clone, Copy, PartialEq, Eq, Debug)]
+pub enum Refusal {
+    KeyLength = 1,
+    PasswordLength = 2,
+    SaltTooShort = 3,
+    TimeCost = 4,
+    RowCount = 5,
+    ColumnCount = 6,
+    MatrixLength = 7,
+    RecordLength = 8,
+    SetupRow = 9,
+    SaltTooLong = 10,
+    LineForm = 11,
+    OutputLength = 12,
+    RoundCount = 13,
+    Rotation = 14,
+    TryCount = 15,
+    NothingFits = 16,
+    BookForm = 17,
+    NoAccount = 18,
+    BookLength = 19,
+    LaneCount = 20,
+}
 
-pub const PASSWORD_LENGTH: u32 = 2;
+impl From<Refusal> for u32 {
+    ghost from_gives = { λ refusal number. number ≡ number_of refusal };
 
-pub const SALT_TOO_SHORT: u32 = 3;
-
-pub const TIME_COST: u32 = 4;
-
-pub const ROW_COUNT: u32 = 5;
-
-pub const COLUMN_COUNT: u32 = 6;
-
-pub const MATRIX_LENGTH: u32 = 7;
-
-pub const RECORD_LENGTH: u32 = 8;
-
-pub const SETUP_ROW: u32 = 9;
-
-pub const SALT_TOO_LONG: u32 = 10;
-
-pub const LINE_FORM: u32 = 11;
-
-pub const OUTPUT_LENGTH: u32 = 12;
-
-pub const ROUND_COUNT: u32 = 13;
-
-pub const ROTATION: u32 = 14;
-
-pub const TRY_COUNT: u32 = 15;
-
-pub const NOTHING_FITS: u32 = 16;
-
-pub const BOOK_FORM: u32 = 17;
-
-pub const NO_ACCOUNT: u32 = 18;
-
-pub const BOOK_LENGTH: u32 = 19;
-
-pub const LANE_COUNT: u32 = 20;
+    fn from(refusal: Refusal) -> u32 {
+        refusal as u32
+    }
+}
 
 pub const MAX_KEY: usize = 1024;
 
@@ -70,65 +64,71 @@ pub const MAX_ROUNDS: usize = 12;
 
 pub const MAX_ROTATION: usize = 11;
 
-pub fn outside(least: usize, most: usize, x: usize) -> bool
-    ensures { result ≡ broken (between least most x) }
+#[tactic(auto, unfolding(crate::specs::Checks::first))]
+// A check of a value that has a least and a most.
+pub fn within(least: usize, most: usize, x: usize, refusal: Refusal) -> Result<(), Refusal>
+    ensures { answer_number result ≡ first (range (number_of refusal) least most x ∷ []) }
 {
-    x < least || most < x
+    if least <= x && x <= most {
+        Ok(())
+    } else {
+        Err(refusal)
+    }
 }
 
-pub fn below(bound: usize, x: usize) -> bool
-    ensures { result ≡ broken (bound ≤? x ∷ []) }
+#[tactic(auto, unfolding(crate::specs::Checks::first))]
+// A check of a value that has only a least.
+pub fn at_least(least: usize, x: usize, refusal: Refusal) -> Result<(), Refusal>
+    ensures { answer_number result ≡ first (at_least (number_of refusal) least x ∷ []) }
 {
-    x < bound
+    if least <= x { Ok(()) } else { Err(refusal) }
 }
 
-// A check's number where it refuses, else what the later checks say.
-pub fn first_of(refuses: bool, number: u32, later: u32) -> u32
-    ensures { result ≡ cond refuses number later }
+// The checks of the lengths.
+pub fn check_lengths(l: Lengths) -> Result<(), Refusal>
+    ensures { answer_number result ≡ first (length_checks l) }
 {
-    if refuses { number } else { later }
+    within(1, MAX_KEY, l.key, Refusal::KeyLength)?;
+    within(0, MAX_PASSWORD, l.password, Refusal::PasswordLength)?;
+    at_least(MIN_SALT, l.salt, Refusal::SaltTooShort)?;
+    within(0, MAX_SALT, l.salt, Refusal::SaltTooLong)
 }
 
-// The checks of the lengths, T, R, C and ρ, the last of them first: each says what the later ones leave to it.
-pub fn cost_refusal(l: Lengths, p: Parameters) -> u32
-    ensures { result ≡ first (cost_checks l p) }
+// The checks of the lengths, T, R, C and ρ.
+pub fn check_costs(l: Lengths, p: Parameters) -> Result<(), Refusal>
+    ensures { answer_number result ≡ first (cost_checks l p) }
 {
-    let later = first_of(outside(1, MAX_ROUNDS, p.rounds), ROUND_COUNT, 0);
-    let later = first_of(outside(1, MAX_COLUMNS, p.columns), COLUMN_COUNT, later);
-    let later = first_of(outside(MIN_ROWS, MAX_ROWS, p.rows), ROW_COUNT, later);
-    let later = first_of(outside(0, MAX_TIME, p.time), TIME_COST, later);
-    let later = first_of(outside(0, MAX_SALT, l.salt), SALT_TOO_LONG, later);
-    let later = first_of(below(MIN_SALT, l.salt), SALT_TOO_SHORT, later);
-    let later = first_of(outside(0, MAX_PASSWORD, l.password), PASSWORD_LENGTH, later);
-    first_of(outside(1, MAX_KEY, l.key), KEY_LENGTH, later)
+    check_lengths(l)?;
+    within(0, MAX_TIME, p.time, Refusal::TimeCost)?;
+    within(MIN_ROWS, MAX_ROWS, p.rows, Refusal::RowCount)?;
+    within(1, MAX_COLUMNS, p.columns, Refusal::ColumnCount)?;
+    within(1, MAX_ROUNDS, p.rounds, Refusal::RoundCount)
 }
 
 // The checks of what is kept of an operator. They are those of the cost question but for the password's length and ρ: no password is
 // too short, and the usual ρ is within its limits.
-pub fn stored_refusal(key: usize, salt: usize, p: StoredParameters) -> u32
-    ensures { result ≡ first (stored_checks key salt p) }
+pub fn check_stored(key: usize, salt: usize, p: StoredParameters) -> Result<(), Refusal>
+    ensures { answer_number result ≡ first (stored_checks key salt p) }
 {
     let l = Lengths {
         key,
         password: 0,
         salt,
     };
-    cost_refusal(l, Parameters::usual(p))
+    check_costs(l, Parameters::usual(p))
 }
 
 // Check 5 alone, of R: what the walk program asks.
-pub fn rows_refusal(rows: usize) -> u32
-    ensures { result ≡ first (rows_check rows ∷ []) }
+pub fn check_rows(rows: usize) -> Result<(), Refusal>
+    ensures { answer_number result ≡ first (rows_check rows ∷ []) }
 {
-    first_of(outside(MIN_ROWS, MAX_ROWS, rows), ROW_COUNT, 0)
+    within(MIN_ROWS, MAX_ROWS, rows, Refusal::RowCount)
 }
 
 // Checks 5 and 9, of R and of a Setup step's row.
-pub fn walk_refusal(rows: usize, row0: usize) -> u32
-    ensures { result ≡ first (walk_checks rows row0) }
+pub fn check_walk(rows: usize, row0: usize) -> Result<(), Refusal>
+    ensures { answer_number result ≡ first (walk_checks rows row0) }
 {
-    if outside(MIN_ROWS, MAX_ROWS, rows) {
-        return ROW_COUNT;
-    }
-    first_of(outside(3, rows - 1, row0), SETUP_ROW, 0)
+    check_rows(rows)?;
+    within(3, rows - 1, row0, Refusal::SetupRow)
 }

@@ -3,22 +3,18 @@
 
 ghost use Rattle.std.specs.Prelude.{◌≡◌, ◌+◌, ◌*◌, ◌≤◌, ◌<◌, ◌^◌};
 ghost use Rattle.refusals.specs.Checks.{first, plain_checks, recorded_checks};
+ghost use Rattle.refusals.specs.Refusals.{answer_number};
 
-use refusals::{
-    MATRIX_LENGTH, MAX_ROTATION, RECORD_LENGTH, ROTATION, below, cost_refusal, first_of, outside,
-};
+use refusals::{MAX_ROTATION, Refusal, at_least, check_costs, within};
 use settings::{Lengths, Parameters, matrix_words};
 
 // The checks of the cost question, then ω and the length of the lent matrix.
-pub fn plain_refusal(l: Lengths, p: Parameters, matrix: usize) -> u32
-    ensures { result ≡ first (plain_checks l p matrix) }
+pub fn check_room(l: Lengths, p: Parameters, matrix: usize) -> Result<(), Refusal>
+    ensures { answer_number result ≡ first (plain_checks l p matrix) }
 {
-    let number = cost_refusal(l, p);
-    if number != 0 {
-        return number;
-    }
-    let later = first_of(below(matrix_words(p), matrix), MATRIX_LENGTH, 0);
-    first_of(outside(1, MAX_ROTATION, p.rotation), ROTATION, later)
+    check_costs(l, p)?;
+    within(1, MAX_ROTATION, p.rotation, Refusal::Rotation)?;
+    at_least(matrix_words(p), matrix, Refusal::MatrixLength)
 }
 
 // The words that the record of n visits takes.
@@ -31,16 +27,15 @@ fn record_words(n: usize, columns: usize) -> usize
 }
 
 // The same, then the length of the lent record.
-pub fn recorded_refusal(l: Lengths, p: Parameters, matrix: usize, record: usize) -> u32
-    ensures { result ≡ first (recorded_checks l p matrix «record») }
+pub fn check_recorded_room(
+    l: Lengths,
+    p: Parameters,
+    matrix: usize,
+    record: usize,
+) -> Result<(), Refusal>
+    ensures { answer_number result ≡ first (recorded_checks l p matrix «record») }
 {
-    let number = plain_refusal(l, p, matrix);
-    if number != 0 {
-        return number;
-    }
-    first_of(
-        below(record_words(p.rows * p.time, p.columns), record),
-        RECORD_LENGTH,
-        0,
-    )
+    check_room(l, p, matrix)?;
+    let words = record_words(p.rows * p.time, p.columns);
+    at_least(words, record, Refusal::RecordLength)
 }

@@ -17,10 +17,9 @@ use Rattle.columns.specs.Columns.{work}
 use Rattle.visits.specs.Visits.{Walk, walk}
 use Rattle.key.specs.Key.{key_bytes, calls_between}
 use Rattle.refusals.specs.Checks.{Accepted, cost_checks, plain_checks}
-use Rattle.derivation.specs.Answers.{spent_on, costs}
+use Rattle.derivation.specs.Answers.{Costs, spent_on, costs}
 use Rattle.derivation.specs.Cost.{full_cost, reduced_cost}
 use Rattle.derivation.specs.Derivation.{walk_end, final_state, key_of, end_state, end_matrix}
-use Rattle.derivation.specs.declared.Costs.{Costs}
 use Rattle.derivation.proofs.Answering.{full_most, reduced_most, full_calls_lem}
 use Rattle.derivation.proofs.UsedMatrix.{cleared_end}
 use Rattle.runs.specs.Runs.{Run}

@@ -8,8 +8,7 @@ use Rattle.refusals.specs.Checks.{first, answered, choice_checks}
 use Rattle.derivation.specs.Cost.{full_cost}
 use Rattle.derivation.specs.Answers.{costs, spent_on}
 use Rattle.choice.specs.Greatest.{greatest_of}
-use Rattle.choice.specs.Choice.{spends, cell_limit, rows_for, better, best_of, time_for, chosen, no_choice, choice_answer}
-use Rattle.choice.specs.declared.Choice.{Choice}
+use Rattle.choice.specs.Choice.{Choice, spends, cell_limit, rows_for, better, best_of, time_for, chosen, no_choice, choice_answer}
 
 -- a key of 32 bytes, a password of 8 and a salt of 16: two full calls, 24 rounds
 abbrev answer : ℕ → ℕ → ℕ → ℕ → Choice

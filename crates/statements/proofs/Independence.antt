@@ -11,9 +11,8 @@ use Rattle.settings.specs.declared.Lengths.{Lengths}
 use Rattle.settings.specs.Settings.{settings}
 use Rattle.input.specs.Input.{Input, lengths, padded_input, input_state}
 use Rattle.refusals.specs.Checks.{first, cost_checks, plain_checks, recorded_checks}
-use Rattle.derivation.specs.Answers.{spent_on, costs, cost_answer}
+use Rattle.derivation.specs.Answers.{Costs, spent_on, costs, cost_answer}
 use Rattle.derivation.specs.Promises.{Derived, Compared, Recorded}
-use Rattle.derivation.specs.declared.Costs.{Costs}
 use Rattle.derivation.proofs.Answering.{cost_yes, accepted_number}
 
 -- the same numbers with a mixer, and with other ρ and ω

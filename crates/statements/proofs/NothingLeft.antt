@@ -15,7 +15,7 @@ use Rattle.refusals.specs.Checks.{cost_checks, plain_checks, recorded_checks}
 use Rattle.refusals.proofs.Accepted.{accepted}
 use Rattle.derivation.specs.Promises.{plain_number, cleared_matrix, Derived, Compared, Recorded}
 use Rattle.derivation.specs.Derivation.{end_matrix}
-use Rattle.derivation.specs.declared.Costs.{Costs}
+use Rattle.derivation.specs.Answers.{Costs}
 use Rattle.derivation.proofs.Answering.{answered_is, accepted_number}
 use Rattle.derivation.proofs.UsedMatrix.{words_after_kept}
 

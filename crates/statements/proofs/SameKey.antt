@@ -16,10 +16,9 @@ use Rattle.key.specs.Key.{same_bytes}
 use Rattle.lists.proofs.EveryLaws.{same_of_equal, equal_of_same}
 use Rattle.refusals.specs.Checks.{cost_checks, plain_checks, recorded_checks}
 use Rattle.refusals.proofs.Accepted.{accepted}
-use Rattle.derivation.specs.Answers.{flag}
+use Rattle.derivation.specs.Answers.{Costs, flag}
 use Rattle.derivation.specs.Derivation.{key_of}
 use Rattle.derivation.specs.Promises.{plain_number, Derived, Compared, Recorded}
-use Rattle.derivation.specs.declared.Costs.{Costs}
 use Rattle.derivation.proofs.Answering.{answered_is, accepted_number}
 use Rattle.end_states.proofs.Walks.{key_of_any_matrix}
 

@@ -1,7 +1,7 @@
 -- The eight lanes that there is room for, of which the first are the lanes of the call, and zeros in their states at the end.
 use Rattle.std.proofs.Common.{sym}
 use Rattle.lanes.specs.declared.Lane.{Lane}
-use Rattle.lanes_deriving.proofs.LanesEnds.{lanes_few, begun_states, begun_length, begins, costs_again}
+use Rattle.lanes_deriving.proofs.LanesEnds.{lanes_few, begun_states, begun_length, begins, counts_again}
 use Rattle.lanes_deriving.proofs.take_accepted.Goals as goal
 
 pub slice_bounds-all-end : goal.slice_bounds-all-end
@@ -21,7 +21,7 @@ returns c =
     let x : Lane = record { state = c.start.result; prev = 0 } in
     let over = rw (begun_length c.args.lanes x (lanes_few _ _ _ _ c.requires), c.usual-p.ensures) at c.take_over-done.ensures in
     record {
-      answer = costs_again c.take_over-done.result.costs _ _ _ over.answer c.clear_states.ensures.0;
+      answer = counts_again c.take_over-done.result.spent over.answer c.clear_states.ensures.0;
       key_is = over.key_is;
       same_is = over.same_is;
       matrix_is = over.matrix_is;

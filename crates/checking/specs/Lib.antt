@@ -1,0 +1,2 @@
+-- What a check answers.
+pub mod Answers

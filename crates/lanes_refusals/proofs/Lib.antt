@@ -1,2 +1,0 @@
--- The laws of the lanes' check.
-pub mod Bounds

@@ -1,0 +1,2 @@
+-- What the recorded derivation answers.
+pub mod Answers
