@@ -42,7 +42,7 @@ fn gathered(
 ) -> Parameters
     ensures { result ≡ parameters time rows columns rounds rotation mixer }
 {
-    let mixer = Mixer::of(mixer);
+    let mixer = Mixer::from(mixer);
     Parameters {
         time,
         rows,

@@ -7,12 +7,13 @@ ghost use Rattle.columns.specs.Bounds.{AtRows, Within};
 ghost use Rattle.columns.specs.Columns.{work};
 ghost use Rattle.lane_columns.specs.LaneColumns.{lane_column};
 
+use cell_sums::sum3;
 use columns::Starts;
 use matrix::{cell, xor_cell};
 use picks::pick_columns;
 use places::Column;
 use settings::Parameters;
-use sponge::duplex::{duplex_sum3, output};
+use sponge::duplex::{duplex_each, output};
 
 pub fn lane_column(s: &mut [u64; 16], m: &mut [u64], rows: Starts, col: Column, p: Parameters)
     requires { (col.0 < p.columns) × Within p.columns rows (length m.old) }
@@ -20,14 +21,10 @@ pub fn lane_column(s: &mut [u64; 16], m: &mut [u64], rows: Starts, col: Column, 
 {
     // The word that picks col1 of a visit by one sponge picks the column of prev0 here.
     let picks = pick_columns(s, p);
-    duplex_sum3(
-        s,
-        cell(m, rows.row0, col),
-        cell(m, rows.prev0, picks.col1),
-        cell(m, rows.row1, col),
-        p.rounds,
-        p.mixer,
-    );
+    let row0 = cell(m, rows.row0, col);
+    let prev0 = cell(m, rows.prev0, picks.col1);
+    let row1 = cell(m, rows.row1, col);
+    duplex_each(s, |j| sum3(row0, prev0, row1, j), p.rounds, p.mixer);
     let at = rows.row0.cell_start(col);
     let rand = output(s);
     xor_cell(m, at, &rand);
