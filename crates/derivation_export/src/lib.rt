@@ -276,7 +276,7 @@ pub extern "C" fn lyra2_derive_recorded(
 pub extern "C" fn lyra2_record_pair(word: u64, numbers: &mut [u64; 2])
     ensures { numbers.new ≡ low_of word ∷ high_of word ∷ [] }
 {
-    store_pair(Pair::of(word), numbers);
+    store_pair(Pair::from(word), numbers);
 }
 
 // Reads a login line: salt and key are put at the start of their outputs.

@@ -21,11 +21,11 @@ pub struct Pair {
     pub high: usize,
 }
 
-impl Pair {
-    // Of any word, also of one that no derivation writes.
-    pub fn of(word: u64) -> Pair
-        ensures { (result.low ≡ low_of word) × (result.high ≡ high_of word) }
-    {
+// Of any word, also of one that no derivation writes.
+impl From<u64> for Pair {
+    ghost from_gives = { λ word pair. (pair.low ≡ low_of word) × (pair.high ≡ high_of word) };
+
+    fn from(word: u64) -> Pair {
         Pair {
             low: (word % 65_536) as usize,
             high: (word / 65_536) as usize,

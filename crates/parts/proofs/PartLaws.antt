@@ -1,7 +1,7 @@
 -- A part of a matrix has the matrix' cells, and a write to one's own part is one to the matrix around it. Assumes nothing.
 use mathlib.Core.Path.{◌≡◌, refl, sym, ap, ap₂, ◌∙◌}
 use mathlib.Core.Bool.{Bool, true, false, cond}
-use Prim.Native.Nat.{ℕ, zero, suc, ◌+◌, ◌-◌, ◌*◌, ◌≤◌, ◌<◌}
+use Prim.Native.Nat.{ℕ, ◌+◌, ◌-◌, ◌≤◌}
 use native.Mathlib.Omega.{arith}
 use mathlib.Core.List.{List, [], ◌∷◌, ◌++◌, append_assoc}
 use lib.ListN.{length, take, drop, length-drop}
@@ -9,10 +9,8 @@ use lib.Seq.{take-take, drop-drop, take-append_seam, drop-append_seam, take-appe
 use lib.Dec.{eqb}
 use Rattle.lists.specs.Zip.{zip_into, zip_at}
 use Rattle.lists.proofs.Parts.{drop-take}
-use Rattle.places.specs.Places.{place, row_start, first_word, cell_start}
-use Rattle.places.specs.declared.RowStart.{RowStart}
 use Rattle.matrix.specs.Cells.{cell_from}
-use Rattle.parts.specs.Parts.{around, found_in, found_words, Found}
+use Rattle.parts.specs.Parts.{around, found_in, found_words}
 
 -- ---- cells of a part
 

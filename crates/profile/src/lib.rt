@@ -57,6 +57,7 @@ impl Profile {
     {}
 
     // The positions that a round takes in turn.
+    #[tactic(auto, unfolding(crate::specs::Profile::quads))]
     pub fn quads() -> [Quad; 8]
         ensures { result ≡ quads }
     {

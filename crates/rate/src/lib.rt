@@ -26,6 +26,7 @@ pub fn xor_words(s: &mut [u64; 16], words: &[u64])
     xor_each(s, words.len(), |j| words[j]);
 }
 
+#[tactic(auto, unfolding(crate::specs::Rate::rand, lists::specs::Zip::tabulate))]
 // The words of the output, which document 01 names rand.
 pub fn output(s: &[u64; 16]) -> [u64; Profile::CELL_WORDS]
     ensures { result ≡ rand s.now }

@@ -44,21 +44,18 @@ pub fn run(
     *s = Profile::start();
     let full = absorb_input(s, password, salt, key_length, p);
     let set = set_up(s, m, p);
-    let order = set.order;
     let v = wander(
         s,
         m,
         Row(p.rows - 1),
-        Row(order.prev1),
+        Row(set.order.prev1),
         p.rows * p.time,
         p,
         record,
     );
-    let row0 = v.row0;
-    let row1 = v.row1;
     Ran {
-        row0,
-        row1,
+        row0: v.row0,
+        row1: v.row1,
         full,
         reduced: set.calls + v.calls,
     }
@@ -69,7 +66,6 @@ pub fn finish(s: &mut [u64; 16], ran: Ran, m: &[u64], p: Parameters) -> u64
     requires { (1 ≤ p.columns) × (ran.row0.0 < p.rows) × (ran.row1.0 < p.rows) × (matrix_words (settings p) ≤ length m.now) × (ran.full < 2 ^ 32) }
     ensures { (result ≡ ran.full + 1) × (s.new ≡ final_state (settings p) (walk (work s.old m.now) ran.row0.0 ran.row1.0)) }
 {
-    let row0 = ran.row0;
-    absorb_last(s, m, row0, p);
+    absorb_last(s, m, ran.row0, p);
     ran.full + 1
 }

@@ -1,17 +1,15 @@
 -- `run_plain` meets its contract: the run, the last cell, then zeros. Assumes nothing.
 use native.Mathlib.Omega.{arith}
-use borrow.Author.Rules.{rules}
 use Rattle.refusals.specs.Checks.{cost_checks, plain_checks}
 use Rattle.runs.proofs.Ends.{finished, full_with_last, can_finish, cleared_after}
-use Rattle.plain_runs.proofs.run_plain.Statement.{statement}
-use Rattle.plain_runs.proofs.run_plain.Tie as tie
+use Rattle.plain_runs.proofs.run_plain.Goals as goal
 
-clear_matrix-requires : tie.Need-clear_matrix-requires
+pub clear_matrix-requires : goal.clear_matrix-requires
 unfolding plain_checks cost_checks
-clear_matrix-requires c κs =
+clear_matrix-requires c =
     omega (arith, c.run-ran.auto, c.requires)
 
-returns : tie.Need-returns
+pub returns : goal.returns
 returns c =
     let run = c.run-ran.ensures in
     let last = c.finish-full.ensures in
@@ -22,9 +20,5 @@ returns c =
       matrix_is = cleared_after run c.requires c.clear_matrix.ensures;
     }
 
-pub run_plain_spec : {M : Type 1} → statement M
-run_plain_spec =
-    tie.close
-    (tie.spec (omega arith) (λ c κs. search rules)
-    (λ c κs. can_finish c.run-ran.ensures c.requires (omega (arith, c.run-ran.auto)))
-    clear_matrix-requires (omega arith) returns)
+pub finish-full-requires : goal.finish-full-requires
+finish-full-requires c = can_finish c.run-ran.ensures c.requires (omega (arith, c.run-ran.auto))

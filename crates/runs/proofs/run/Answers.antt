@@ -21,8 +21,7 @@ use Rattle.refusals.specs.Checks.{Accepted, plain_checks, cost_checks}
 use Rattle.refusals.proofs.Accepted.{cells_most, visits_most, record_most}
 use Rattle.derivation.specs.Derivation.{setup_end, walk_end, end_record}
 use Rattle.derivation.proofs.Answering.{calls_sum}
-use Rattle.runs.proofs.run.Statement.{statement}
-use Rattle.runs.proofs.run.Tie as tie
+use Rattle.runs.proofs.run.Goals as goal
 
 -- the products of a walk within the limits, far below a word
 record Few (p : Parameters) : Type 0 where
@@ -43,9 +42,9 @@ few l p m h =
       calls = le_trans (mul-le-mul n c) (omega arith);
     }
 
-wander-requires : tie.Need-wander-v-requires
+pub wander-v-requires : goal.wander-v-requires
 unfolding plain_checks cost_checks
-wander-requires c κs =
+wander-v-requires c =
     let start = c in
     let up = c.set_up-set in
     let f = few _ start.args.p _ start.requires in (
@@ -59,7 +58,7 @@ wander-requires c κs =
       omega (arith, f.calls),
     )
 
-returns : tie.Need-returns
+pub returns : goal.returns
 unfolding walk_end end_record input_state setup_end
 returns c =
     let a = c.args in
@@ -80,12 +79,22 @@ returns c =
       noted = v.noted ∙ ap (λ (w : Walk). put_into a.«record».now (encode (visits S (visit_count S) w))) e;
     }
 
-pub run_spec : {M : Type 1} → statement M
+pub set_up-set-requires : goal.set_up-set-requires
 unfolding plain_checks cost_checks
-run_spec =
-    tie.close
-    (tie.spec (omega arith) (omega arith) (omega arith) (λ c. omega (arith, c.requires)) (λ c. omega (arith, (few _ c.args.p _ c.requires).visits)) wander-requires
-    (λ c.
+set_up-set-requires c = omega (arith, c.requires)
+
+pub absorb_input-full-requires : goal.absorb_input-full-requires
+unfolding plain_checks cost_checks
+absorb_input-full-requires c = omega (arith, c.requires)
+
+pub overflow_sub-p : goal.overflow_sub-p
+unfolding plain_checks cost_checks
+overflow_sub-p c = omega (arith, c.requires)
+
+pub overflow_mul-p : goal.overflow_mul-p
+overflow_mul-p c = omega (arith, (few _ c.args.p _ c.requires).visits)
+
+pub overflow_add-result : goal.overflow_add-result
+overflow_add-result c =
     let f = few _ c.args.p _ c.requires in
-    omega (arith, f.cells, f.calls, c.set_up-set.ensures.1, c.wander-v.ensures.counted))
-    (omega arith) (omega arith) returns)
+    omega (arith, f.cells, f.calls, c.set_up-set.ensures.1, c.wander-v.ensures.counted)
