@@ -7,10 +7,3 @@ pub struct Lane {
     pub state: [u64; 16],
     pub prev: usize,
 }
-
-// How many lanes there are, and the rows that each has.
-#[derive(Clone, Copy)]
-pub struct Shape {
-    pub lanes: usize,
-    pub rows: usize,
-}

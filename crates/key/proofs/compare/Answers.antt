@@ -1,7 +1,7 @@
-use Rattle.std.proofs.Common.{◌≡◌, refl, length, arith}
-use Rattle.key_bytes.proofs.KeyLaws.{length_key, squeezed_none, squeezed_more, squeezed_end, squeezed_byte}
+use Rattle.std.proofs.Common.{refl, arith}
+use Rattle.key_bytes.proofs.KeyLaws.{length_key, squeezed_none, squeezed_more, squeezed_byte}
 use Rattle.key.specs.Key.{pieces}
-use Rattle.key.proofs.Same.{differing_none, differing_more_lem, differing_end}
+use Rattle.key.proofs.Same.{differing_none, differing_more_lem}
 use Rattle.key.proofs.compare.Goals as goal
 
 pub loop-i-init : goal.loop-i-init
@@ -19,10 +19,3 @@ loop-i-preserved c =
       differing = differing_more_lem inv.differing (omega arith) refl (squeezed_byte _ inv.taken next.0 _ _ (omega arith) next.1);
       taken = squeezed_more _ inv.taken next.0 _ next.2;
     }
-
-pub returns : goal.returns
-returns c =
-    let inv = c.loop-i.invariant in
-    let all : c.loop-i.i ≡ length c.args.stored.now = omega arith in
-    let end = squeezed_end _ inv.taken all in
-    (differing_end inv.differing (omega arith), end.0, end.1)

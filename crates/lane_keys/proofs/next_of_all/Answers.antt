@@ -1,14 +1,11 @@
 use Rattle.std.proofs.Common.{ap, sym, ◌∙◌, arith}
 use Rattle.lanes.proofs.LaneSteps.{length_states, state_at, states_set}
 use Rattle.key.specs.Key.{full_calls}
-use Rattle.lane_keys.proofs.LaneBytes.{arriving_none, arriving_more, arriving_end, calls_one}
+use Rattle.lane_keys.proofs.LaneBytes.{arriving_none, arriving_more, calls_one}
 use Rattle.lane_keys.proofs.next_of_all.Goals as goal
 
 pub loop-lane-init : goal.loop-lane-init
 loop-lane-init c = record { few = omega arith; arriving = arriving_none _ _ _ }
-
-pub overflow_add-calls : goal.overflow_add-calls
-overflow_add-calls c = omega (arith, c.next_byte-next.ensures.2, calls_one c.args.i)
 
 pub loop-lane-preserved : goal.loop-lane-preserved
 loop-lane-preserved c =
@@ -21,6 +18,3 @@ loop-lane-preserved c =
           (arriving_more _ _ _ v.invariant.arriving (omega (arith, length_states c.args.lanes.now)) _ _ _
           (next.0 ∙ ap (full_calls _ _) (sym (state_at v.lanes v.lane-index))) next.1 next.2);
     }
-
-pub returns : goal.returns
-returns c = arriving_end _ _ _ c.loop-lane.invariant.arriving (omega arith)

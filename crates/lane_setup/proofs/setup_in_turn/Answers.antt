@@ -3,28 +3,14 @@ use native.Mathlib.Nat.{zero-mul, mod-lt}
 use Rattle.lists.proofs.LoopLaws.{loop_none, loop_more, loop_end}
 use Rattle.settings.specs.Settings.{settings}
 use Rattle.setup.specs.Setup.{setup_rows}
-use Rattle.columns.proofs.RowLaws.{row_more, row_before}
+use Rattle.columns.proofs.RowLaws.{row_more}
 use Rattle.lanes.specs.LaneSetup.{lane_setup, setup_in_turn}
-use Rattle.lanes.proofs.InTurn.{few, lane_reach, calls_most}
+use Rattle.lanes.proofs.InTurn.{lane_reach}
 use Rattle.lanes.proofs.LaneSteps.{works_step}
 use Rattle.lane_setup.proofs.setup_in_turn.Goals as goal
 
 pub loop-i-init : goal.loop-i-init
 loop-i-init c = record { order_is = λ some. absurd (omega arith); counted = sym (zero-mul _); done = loop_none _ _ }
-
-pub overflow_add-other : goal.overflow_add-other
-overflow_add-other c = omega (arith, (few 0 c.requires.0 (omega arith)).lanes)
-
-pub nonzero_rem-other : goal.nonzero_rem-other
-nonzero_rem-other c = omega (arith, c.requires.0.lanes_pos)
-
-pub overflow_mul-i : goal.overflow_mul-i
-overflow_mul-i c = omega (arith, row_before c.loop-i.i (length c.args.lanes.now) c.args.rows c.loop-i-test.true, c.requires.0.rows_most)
-
-pub overflow_mul-other : goal.overflow_mul-other
-overflow_mul-other c =
-    let p = length c.args.lanes.now in
-    omega (arith, row_before ((c.loop-i.i + c.args.t) % p) p c.args.rows (mod-lt _ c.requires.0.lanes_pos), c.requires.0.rows_most)
 
 pub setup_rows-done-requires : goal.setup_rows-done-requires
 setup_rows-done-requires c =
@@ -32,18 +18,6 @@ setup_rows-done-requires c =
     let a = c.args in
     let room = c.requires.0 in
     (c.requires.2, rw v.auto.m (lane_reach (3 + (a.k + a.n)) room c.requires.3 v.i ((v.i + a.t) % length a.lanes.now) c.loop-i-test.true (mod-lt _ room.lanes_pos)))
-
-pub overflow_add-calls : goal.overflow_add-calls
-overflow_add-calls c =
-    let a = c.args in
-    let p = length a.lanes.now in
-    let f = few 0 c.requires.0 (omega arith) in
-    omega (
-      arith,
-      c.setup_rows-done.ensures.1,
-      row_before c.loop-i.i p (a.n * a.p.columns) c.loop-i-test.true,
-      calls_most p a.n a.p.columns f.lanes (omega (arith, f.rows)) c.requires.0.columns_most,
-    )
 
 pub loop-i-preserved : goal.loop-i-preserved
 unfolding lane_setup

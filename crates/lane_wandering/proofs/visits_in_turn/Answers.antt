@@ -19,9 +19,6 @@ visit_lane-calls-requires c =
       omega (arith, c.requires.2, row_before v.i (length a.lanes.now) (a.count * a.p.columns) c.loop-i-test.true),
     )
 
-pub overflow_add-calls : goal.overflow_add-calls
-overflow_add-calls c = omega (arith, row_before c.loop-i.i (length c.args.lanes.now) (c.args.count * c.args.p.columns) c.loop-i-test.true)
-
 pub loop-i-preserved : goal.loop-i-preserved
 loop-i-preserved c =
     let v = c.loop-i in
