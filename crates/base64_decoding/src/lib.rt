@@ -4,18 +4,20 @@
 
 ghost use Rattle.std.specs.Prelude.{◌≡◌, ◌-◌, ◌%◌, ◌≤◌, ◌<◌, eqb, length};
 ghost use Rattle.lists.specs.Zip.{put_into};
-ghost use Rattle.base64_encoding.specs.Base64.{value_at, octet, decoded_length, decode, unused, is_text};
+ghost use Rattle.base64_encoding.specs.Base64.{value_at, octet, decoded_length, decode, unused, all_letters, is_text};
 
 use base64_letters::value;
 
-// The value of the letter at a place, 0 past the end.
+// The value of the letter at a place, that of A past the end, 0.
+#[tactic(auto, using(base64_letters::proofs::LetterLaws::value_most), unfolding(base64_encoding::specs::Base64::value_at))]
 fn value_at(text: &[u8], i: usize) -> usize
     ensures { (result ≡ value_at text.now i) × (result ≤ 64) }
 {
-    if i < text.len() { value(text[i]) } else { 0 }
+    value(text.get(i).copied().unwrap_or(b'A'))
 }
 
 // The eight bits of byte j.
+#[tactic(auto, unfolding(base64_encoding::specs::Base64::decoded_length))]
 fn octet(text: &[u8], j: usize) -> u8
     requires { j < decoded_length (length text.now) }
     ensures { result ≡ octet text.now j }
@@ -27,6 +29,7 @@ fn octet(text: &[u8], j: usize) -> u8
     ((bits >> (16 - 8 * (j % 3))) % 256) as u8
 }
 
+#[tactic(auto, unfolding(base64_encoding::specs::Base64::decoded_length))]
 pub fn decoded_length(n: usize) -> usize
     ensures { result ≡ decoded_length n }
 {
@@ -39,39 +42,33 @@ pub fn put_decoded(text: &[u8], out: &mut [u8])
     ensures { out.new ≡ put_into out.old (decode text.now) }
 {
     let n = decoded_length(text.len());
-    let mut j = 0;
-    while j < n {
+    for j in 0..n {
         out[j] = octet(text, j);
-        j += 1;
     }
 }
 
 // The last of 4 g + 2 letters has four bits that no byte takes, the last of 4 g + 3 has two.
+#[tactic(auto, using(std::proofs::lemmas::Bool::Decides::nat_tests), unfolding(base64_encoding::specs::Base64::unused))]
 fn unused_bits_zero(text: &[u8]) -> bool
     ensures { result ≡ eqb (value_at text.now (length text.now - 1) % unused (length text.now)) 0 }
 {
     let n = text.len();
-    if n % 4 == 2 {
-        return value_at(text, n - 1) % 16 == 0;
+    match n % 4 {
+        2 => value_at(text, n - 1) % 16 == 0,
+        3 => value_at(text, n - 1) % 4 == 0,
+        _ => true,
     }
-    if n % 4 == 3 {
-        return value_at(text, n - 1) % 4 == 0;
-    }
-    true
 }
 
+fn all_letters(text: &[u8]) -> bool
+    ensures { result ≡ all_letters text.now }
+{
+    text.iter().all(|byte| value(*byte) < 64)
+}
+
+#[tactic(auto, using(std::proofs::lemmas::Bool::Decides::nat_tests), unfolding(base64_encoding::specs::Base64::is_text))]
 pub fn is_text(text: &[u8]) -> bool
     ensures { result ≡ is_text text.now }
 {
-    let mut i = 0;
-    while i < text.len() {
-        if 64 <= value(text[i]) {
-            return false;
-        }
-        i += 1;
-    }
-    if text.len() % 4 == 1 {
-        return false;
-    }
-    unused_bits_zero(text)
+    all_letters(text) && text.len() % 4 != 1 && unused_bits_zero(text)
 }

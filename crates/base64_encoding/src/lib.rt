@@ -12,11 +12,7 @@ use base64_letters::letter;
 fn byte_at(bytes: &[u8], i: usize) -> usize
     ensures { (result ≡ get_or bytes.now i 0) × (result < 256) }
 {
-    if i < bytes.len() {
-        bytes[i] as usize
-    } else {
-        0
-    }
+    usize::from(bytes.get(i).copied().unwrap_or(0))
 }
 
 // The six bits of letter i.
@@ -28,6 +24,7 @@ fn sextet(bytes: &[u8], i: usize) -> usize
     (bits >> (18 - 6 * (i % 4))) % 64
 }
 
+#[tactic(auto, unfolding(crate::specs::Base64::encoded_length))]
 pub fn encoded_length(n: usize) -> usize
     requires { n < 2 ^ 32 }
     ensures { result ≡ encoded_length n }
@@ -41,10 +38,8 @@ pub fn append_encoded(out: &mut [u8], at: usize, bytes: &[u8]) -> usize
     ensures { Appended out.old out.new at (encode bytes.now) result }
 {
     let n = encoded_length(bytes.len());
-    let mut i = 0;
-    while i < n {
+    for i in 0..n {
         out[at + i] = letter(sextet(bytes, i));
-        i += 1;
     }
     at + n
 }

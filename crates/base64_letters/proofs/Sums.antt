@@ -1,12 +1,9 @@
 -- The sums by which the code finds a letter and a value, without a branch, are the definitions'. Assumes nothing.
 use mathlib.Core.Path.{◌≡◌, refl}
 use mathlib.Core.Bool.{cond, ◌&&◌}
-use Prim.Native.Nat.{ℕ, ◌+◌, ◌*◌, ◌-◌, ◌/◌, ◌%◌, ◌≤◌, ◌<◌}
-use native.Mathlib.Nat.{zero-mul, one-mul, mul-le-mul_right, lt_of_le_of_lt}
-use native.Mathlib.Decide.{dec_le, dec_lt}
-use native.Mathlib.Omega.{arith}
+use Prim.Native.Nat.{ℕ, ◌+◌, ◌*◌, ◌-◌, ◌/◌, ◌%◌, ◌<◌}
 use lib.Dec.{ltb, leb, eqb}
-use borrow.Author.Tests.{eqb-true, lt-ltb, le-ltb, le-leb, lt-leb}
+use borrow.Author.Tests.{eqb-true}
 use Rattle.base64_letters.specs.Letters.{letter, value_of}
 use Rattle.base64_letters.proofs.Table.{at}
 
@@ -20,28 +17,6 @@ letter_sum_lem v = v + 65 + 6 * step v 26 - 75 * step v 52 - 15 * step v 62 + 3 
 pub letter_sum : (v : ℕ) → v < 64 → letter_sum_lem v ≡ letter v
 unfolding letter
 letter_sum v h = eqb-true _ _ (at (λ v. eqb (letter_sum_lem v) (letter v)) 64 refl v h)
-
-pub flag_fits : (flag x : ℕ) → flag ≤ 1 → x < 256 → flag * x < 256
-flag_fits flag x h small = lt_of_le_of_lt (mul-le-mul_right x h) (rw one-mul small)
-
--- a product with 1 in the range and with 0 outside
-pub in_range : (b from to top : ℕ) → b < 256 → from ≤ to → to ≤ top → top < 256
-    → (step b from - step b to) * ((top + 256 - b) % 256) ≡ cond (leb from b && ltb b to) (top - b) 0
-in_range b from to top small le fits most =
-    elim (dec_le from b) [
-      | no before ↦
-          let out : step b from - step b to ≡ 0 = omega arith in
-          rw (out, zero-mul, lt-leb from b (omega arith))
-      | yes inside ↦
-          elim (dec_lt b to) [
-            | yes least ↦
-                let one : step b from - step b to ≡ 1 = omega arith in
-                rw (one, one-mul, le-leb from b inside, lt-ltb b to least) (omega arith)
-            | no past ↦
-                let out : step b from - step b to ≡ 0 = omega arith in
-                rw (out, zero-mul, le-leb from b inside, le-ltb b to (omega arith))
-          ]
-    ]
 
 abbrev below : ℕ → ℕ → ℕ → ℕ → ℕ
 below b from to top = cond (leb from b && ltb b to) (top - b) 0

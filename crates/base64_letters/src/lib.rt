@@ -28,18 +28,12 @@ fn below_top(b: usize, from: usize, to: usize, top: usize) -> usize
     (step(b, from) - step(b, to)) * ((top + 256 - b) % 256)
 }
 
-fn widened(b: u8) -> usize
-    ensures { result ≡ b }
-{
-    b as usize
-}
-
 // A byte is in one range at most; how far it is below the range's top is what its value lacks of 64. Five times 256 more, so that no
 // difference goes below 0.
 pub fn value(b: u8) -> usize
     ensures { result ≡ value_of b }
 {
-    let x = widened(b);
+    let x = usize::from(b);
     (64 + 1280
         - below_top(x, 65, 91, 129)
         - below_top(x, 97, 123, 135)

@@ -1,17 +1,18 @@
 -- Decimal digits as the code writes and reads them. Assumes nothing.
 use mathlib.Core.Path.{◌≡◌, ap, subst, refl, sym, ◌∙◌}
-use mathlib.Core.Bool.{false, cond, ◌&&◌, and-false}
+use mathlib.Core.Bool.{Bool, true, false, cond, ◌&&◌}
 use Prim.Native.Nat.{ℕ, zero, suc, ◌+◌, ◌-◌, ◌/◌, ◌%◌, ◌^◌, ◌≤◌, ◌<◌, ◌*◌, min}
 use native.Mathlib.Nat.{pow-suc, pow-succ', div-div-eq-div-mul, one-le-pow, pow-le-pow_right, mul-le-mul_right}
 use native.Mathlib.Decide.{dec_le, dec_lt}
 use native.Mathlib.Omega.{arith}
 use native.Mathlib.Numerals.{add-one}
 use mathlib.Core.List.{List, [], ◌∷◌, ◌++◌}
-use lib.Dec.{leb}
 use lib.ListN.{length, get_or, drop, drop_of_length-le, length-append, get_or-append}
 use lib.Seq.{drop-cons, get_or_at}
 use borrow.Author.Tests.{lt-ltb, le-ltb, le-leb, lt-leb}
-use Rattle.lists.proofs.EveryLaws.{Passed, passed_more, failed}
+use Rattle.std.specs.Char.{is_ascii_digit}
+use Rattle.std.specs.List.{list_all}
+use Rattle.lists.specs.Every.{every}
 use Rattle.decimal.specs.Decimal.{decimal_up_to, decimal, is_digit, all_digits, number_from}
 
 -- ---- written
@@ -106,25 +107,22 @@ unfolding number_from
 reading_end {ds} {i} {v} q h =
     q.kept ∙ ap (λ (n : ℕ). min n 100000) (ap (number_from q.exact) (sym (drop_of_length-le ds {i = i} h)) ∙ q.rest)
 
-module _ {ds : List ℕ} {i v : ℕ} (q : Reading ds i v) (inside : i < length ds) {b : ℕ} (here : b ≡ get_or ds i 0) where
-  unread : cond (leb 48 b && leb b 57) (number_from (q.exact * 10 + (b - 48)) (drop (suc i) ds)) 0 ≡ number_from 0 ds
+module _ {ds : List ℕ} {i v : ℕ} (q : Reading ds i v) (inside : i < length ds) where
+  unread : cond (is_digit (get_or ds i 0)) (number_from (q.exact * 10 + (get_or ds i 0 - 48)) (drop (suc i) ds)) 0 ≡ number_from 0 ds
   unfolding number_from
-  unread = rw here (ap (number_from q.exact) (sym (drop-cons ds i 0 inside)) ∙ q.rest)
+  unread = ap (number_from q.exact) (sym (drop-cons ds i 0 inside)) ∙ q.rest
 
-  pub reading_more : {w : ℕ} → 48 ≤ b → b ≤ 57 → w ≡ min (v * 10 + (b - 48)) 100000 → Reading ds (i + 1) w
-  reading_more least most e =
+  pub reading_more : {w : ℕ} → is_digit (get_or ds i 0) ≡ true → w ≡ min (v * 10 + (get_or ds i 0 - 48)) 100000 → Reading ds (i + 1) w
+  reading_more digit e =
       record {
         inside = omega arith;
-        exact = q.exact * 10 + (b - 48);
+        exact = q.exact * 10 + (get_or ds i 0 - 48);
         kept = omega (arith, q.kept);
-        rest = rw add-one (simp (le-leb _ _ least, le-leb _ _ most) at unread);
+        rest = rw add-one (rw digit at unread);
       }
 
-  pub below_digits : b < 48 → 0 ≡ min (number_from 0 ds) 100000
-  below_digits h = let zero_is : 0 ≡ number_from 0 ds = simp (lt-leb _ _ h) at unread in omega arith
-
-  pub above_digits : 57 < b → 0 ≡ min (number_from 0 ds) 100000
-  above_digits h = let zero_is : 0 ≡ number_from 0 ds = simp (le-leb 48 b (omega arith), lt-leb _ _ h) at unread in omega arith
+  pub no_digit : is_digit (get_or ds i 0) ≡ false → 0 ≡ min (number_from 0 ds) 100000
+  no_digit other = let zero_is : 0 ≡ number_from 0 ds = rw other at unread in omega arith
 
 -- a number of k digits is below 10^k
 number_below : (v : ℕ) (t : List ℕ) → number_from v t < (v + 1) * 10 ^ length t
@@ -147,14 +145,9 @@ number_below v (b ∷ t) =
 pub five_digits : (t : List ℕ) → length t ≤ 5 → number_from 0 t < 100000
 five_digits t h = omega (arith, number_below 0 t, pow-le-pow_right {n = 10} (omega arith) {i = length t} {j = 5} h)
 
--- ---- the form: the bytes before i are digits
+-- ---- the form
 
-module _ {t : List ℕ} {i : ℕ} (q : Passed is_digit t i) (inside : i < length t) where
-  pub digit_more : 48 ≤ get_or t i 0 → get_or t i 0 ≤ 57 → Passed is_digit t (i + 1)
-  digit_more least most = passed_more is_digit q inside (simp (le-leb 48 (get_or t i 0) least, le-leb (get_or t i 0) 57 most))
-
-  pub under_digits : get_or t i 0 < 48 → false ≡ all_digits t
-  under_digits h = failed is_digit q inside (simp (lt-leb 48 (get_or t i 0) h))
-
-  pub over_digits : 57 < get_or t i 0 → false ≡ all_digits t
-  over_digits h = failed is_digit q inside (simp (lt-leb (get_or t i 0) 57 h, and-false))
+pub all_digits_is : (text : List ℕ) → list_all is_ascii_digit text ≡ all_digits text
+unfolding every
+all_digits_is [] = refl
+all_digits_is (b ∷ text) = ap (λ (rest : Bool). is_digit b && rest) (all_digits_is text)

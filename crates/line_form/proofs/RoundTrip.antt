@@ -2,7 +2,7 @@
 use mathlib.Core.Path.{◌≡◌, refl, sym, ap, ap₂, subst, ◌∙◌}
 use mathlib.Core.Logic.{◌↔◌}
 use mathlib.Core.Bool.{Bool, true, false, true≢false, ◌||◌}
-use Prim.Native.Nat.{ℕ, ◌+◌, ◌≤◌}
+use Prim.Native.Nat.{ℕ, ◌≤◌}
 use native.Mathlib.Omega.{arith}
 use mathlib.Core.List.{List, [], ◌∷◌, ◌++◌}
 use lib.ListN.{length, take}
@@ -12,9 +12,7 @@ use Rattle.refusals.specs.Checks.{◌≤?◌, Check, flag, first, refuses, answe
 use Rattle.refusals.proofs.Accepted.{accepted, flag-set, first_passed, first_refused, first_none, first_before, first_other, first_last, more_pass}
 use Rattle.refusals.proofs.Answered.{answered_is, answered_number}
 use Rattle.line_form.specs.Line.{Values, Bytes, line_of, is_line, values_of, length_by}
-use Rattle.line_form.specs.Promises.{value_checks, read_checks, line_values, no_values, read_answer, read_number, Read, write_checks, line_length, no_length, write_number, Written}
-use Rattle.line_form.specs.declared.LineValues.{LineValues}
-use Rattle.line_form.specs.declared.LineLength.{LineLength}
+use Rattle.line_form.specs.Promises.{value_checks, LineValues, read_checks, line_values, no_values, read_answer, read_number, Read, LineLength, write_checks, line_length, no_length, write_number, Written}
 use Rattle.line_form.proofs.Inverse.{line_is_line, values_of_line, line_of_values, values_bytes}
 use Rattle.line_form.proofs.Lengths.{line-length, line_most}
 

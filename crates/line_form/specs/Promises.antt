@@ -1,17 +1,27 @@
 -- What reading and writing a login line promise: the answer, and what they leave in each lent output. An output is `salt` before the call
 -- and `salt'` after it.
-use Rattle.std.specs.Prelude.{◌≡◌, ℕ, List, [], ◌∷◌, ◌++◌, length}
+use Rattle.std.specs.Prelude.{◌≡◌, ℕ, List, [], ◌∷◌, ◌++◌, length, Result, Ok, Err}
 use Rattle.lists.specs.Zip.{put_into}
 use Rattle.refusals.specs.Checks.{◌≤?◌, Check, first, answered, form_check, output_check, stored_checks}
+use Rattle.refusals.specs.Refusals.{number_of}
+use Rattle.refusals.specs.declared.Refusal.{Refusal}
 use Rattle.line_form.specs.Line.{Values, line_of, is_line, values_of}
-use Rattle.line_form.specs.declared.LineValues.{LineValues}
-use Rattle.line_form.specs.declared.LineLength.{LineLength}
+use Rattle.line_form.specs.declared.LineValues.{LineValues as Said}
 
 -- the limits of what a line says
 abbrev pub value_checks : Values → List Check
 value_checks v = stored_checks (length v.key) (length v.salt) v.parameters
 
 -- ---- reading
+
+-- 0 or the number of a refusal, and what the line says, zeros beside a refusal
+pub record LineValues : Type 0 where
+  pub refusal : ℕ
+  pub time : ℕ
+  pub rows : ℕ
+  pub columns : ℕ
+  pub salt : ℕ
+  pub key : ℕ
 
 -- the form before any value, and the room of both outputs, in bytes, after all of them
 unfoldable pub read_checks : List ℕ → ℕ → ℕ → List Check
@@ -33,6 +43,14 @@ line_values v =
 unfoldable pub no_values : ℕ → LineValues
 no_values number = record { refusal = number; time = 0; rows = 0; columns = 0; salt = 0; key = 0 }
 
+-- what the code answers, as such a record
+abbrev pub said : Said → LineValues
+said v = record { refusal = 0; time = v.time; rows = v.rows; columns = v.columns; salt = v.salt; key = v.key }
+
+abbrev pub values_answer : Result Said Refusal → LineValues
+values_answer (Ok v) = said v
+values_answer (Err r) = no_values (number_of r)
+
 -- by the room of the outputs
 unfoldable pub read_answer : List ℕ → ℕ → ℕ → LineValues
 read_answer line salt_room key_room =
@@ -48,6 +66,11 @@ pub record Read (line salt key salt' key' : List ℕ) (r : LineValues) : Type 0 
 
 -- ---- writing
 
+-- 0 or the number of a refusal, and the line's length, zero beside a refusal
+pub record LineLength : Type 0 where
+  pub refusal : ℕ
+  pub length : ℕ
+
 unfoldable pub write_checks : Values → ℕ → List Check
 write_checks v room = value_checks v ++ (output_check (length (line_of v) ≤? room ∷ []) ∷ [])
 
@@ -56,6 +79,10 @@ line_length n = record { refusal = 0; length = n }
 
 unfoldable pub no_length : ℕ → LineLength
 no_length number = record { refusal = number; length = 0 }
+
+abbrev pub length_answer : Result ℕ Refusal → LineLength
+length_answer (Ok n) = line_length n
+length_answer (Err r) = no_length (number_of r)
 
 abbrev pub write_number : Values → List ℕ → ℕ
 write_number v line = first (write_checks v (length line))

@@ -1,2 +1,2 @@
--- The laws of marks and of the ends of texts.
+-- What follows from the marks of a line.
 pub mod Marks

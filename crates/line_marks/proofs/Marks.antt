@@ -1,129 +1,128 @@
--- The steps of the loops that look for the end of a text and compare a mark, and what follows from a mark that stands. Assumes nothing.
-use mathlib.Core.Path.{◌≡◌, refl, sym, ap, ◌∙◌}
-use mathlib.Core.Bool.{Bool, true, false, cond, ◌&&◌, false≢true}
-use Prim.Native.Nat.{ℕ, suc, ◌+◌, ◌≤◌, ◌<◌}
-use native.Mathlib.Numerals.{add-one}
+-- What follows from the marks that stand, and from the one that is missing. Assumes nothing.
+use mathlib.Core.Path.{◌≡◌, refl, sym, ap, subst, ◌∙◌}
+use mathlib.Core.Bool.{Bool, true, false, ◌&&◌, and-false}
+use Prim.Native.Nat.{ℕ, ◌+◌}
 use native.Mathlib.Omega.{arith}
 use mathlib.Core.List.{List, [], ◌∷◌}
+use denote.Ref.{Bor}
 use lib.Dec.{eqb}
-use lib.ListN.{length, get_or, drop, drop_of_length-le}
-use lib.Seq.{drop-cons}
+use lib.ListN.{length, take, drop}
+use lib.Seq.{drop-drop, take-append_seam}
 use borrow.Author.Tests.{eq-eqb, ne_eqb}
+use Rattle.std.specs.Prelude.{Option, None}
+use Rattle.std.specs.Cmp.Lexicographic.{pointwise}
+use Rattle.lists.specs.Every.{same_bytes}
 use Rattle.text.specs.Text.{stands_at}
-use Rattle.text.proofs.Standing.{stands_fits}
-use Rattle.line_form.specs.Line.{start_mark, rows_mark, columns_mark, text_mark, until, end_at, time_end, rows_end, columns_end, is_marked}
-use Rattle.line_form.proofs.Inverse.{both}
-use Rattle.line_marks.specs.declared.End.{End}
-use Rattle.line_marks.specs.Ends.{NextEnd, EndsOf}
+use Rattle.line_form.specs.Line.{start_mark, rows_mark, columns_mark, text_mark, until, end_at, time_end, rows_end, columns_end, salt_end, is_marked}
+use Rattle.line_form.proofs.Cuts.{until_splits}
+use Rattle.line_marks.specs.declared.Texts.{Texts}
+use Rattle.line_marks.specs.Cuts.{Cut, CutAt, TextsOf}
 
--- ---- the end of a text
+-- ---- the first c
 
--- no c stands from place a up to place i
-pub record Sought (c : ℕ) (l : List ℕ) (a i : ℕ) : Type 0 where
-  pub inside : i ≤ length l
-  pub so_far : end_at c l i ≡ end_at c l a
+pub until_none : (c : ℕ) → length (until c []) ≡ 0
+unfolding until
+until_none c = refl
 
-pub sought_none : {c : ℕ} {l : List ℕ} {a : ℕ} → a ≤ length l → Sought c l a a
-sought_none h = record { inside = h; so_far = refl }
+pub until_hit : (c b : ℕ) (bs : List ℕ) → b ≡ c → length (until c (b ∷ bs)) ≡ 0
+unfolding until
+until_hit c b bs e = simp (eq-eqb b c e)
 
-module _ {c : ℕ} {l : List ℕ} {a i : ℕ} (q : Sought c l a i) where
-  until_here : i < length l → until c (drop i l) ≡ cond (eqb (get_or l i 0) c) [] (get_or l i 0 ∷ until c (drop (suc i) l))
-  unfolding until
-  until_here h = ap (until c) (drop-cons l i 0 h)
+pub until_miss : (c b : ℕ) (bs : List ℕ) → (b ≡ c → ⊥) → length (until c (b ∷ bs)) ≡ length (until c bs) + 1
+unfolding until
+until_miss c b bs e = simp (ne_eqb b c e) (omega arith)
 
-  pub sought_found : i < length l → get_or l i 0 ≡ c → i ≡ end_at c l a
+pub take-until : (c : ℕ) (part : List ℕ) → take (length (until c part)) part ≡ until c part
+take-until c part =
+    ap (take (length (until c part))) (until_splits c part) ∙ take-append_seam (until c part) (drop (length (until c part)) part)
+
+-- ---- a mark, as the library compares it
+
+pub same : (xs ys : List ℕ) → pointwise eqb xs ys ≡ same_bytes xs ys
+unfolding same_bytes
+same [] [] = refl
+same [] (y ∷ ys) = refl
+same (x ∷ xs) [] = refl
+same (x ∷ xs) (y ∷ ys) = ap (λ (b : Bool). eqb x y && b) (same xs ys)
+
+-- the slices that std gives, by the place that was found
+module _ (part : List ℕ) (c : ℕ) (mark : List ℕ) {behind : List ℕ} {place : ℕ} (is : place ≡ length (until c part)) (back : behind ≡ drop place part) where
+  told : pointwise eqb (take (length mark) behind) mark ≡ stands_at part (length (until c part)) mark
+  told = same (take (length mark) behind) mark ∙ ap (λ (l : List ℕ). same_bytes (take (length mark) l) mark) (back ∙ ap (λ (n : ℕ). drop n part) is)
+
+  pub none_stands : pointwise eqb (take (length mark) behind) mark ≡ false → stands_at part (length (until c part)) mark ≡ false
+  none_stands h = sym told ∙ h
+
+  pub cut_here : {text rest : List ℕ} → text ≡ take place part → pointwise eqb (take (length mark) behind) mark ≡ true → rest ≡ drop (length mark) behind
+      → Cut part c mark text rest
+  cut_here front h is_rest =
+      record {
+        text_is = front ∙ ap (λ (n : ℕ). take n part) is ∙ take-until c part;
+        stands = sym told ∙ h;
+        rest_is =
+            is_rest ∙ ap (drop (length mark)) (back ∙ ap (λ (n : ℕ). drop n part) is) ∙ drop-drop (length mark) (length (until c part)) part;
+      }
+
+pub not_cut : (part : List ℕ) (c : ℕ) (mark : List ℕ) {r : Option (Bor (List ℕ) × Bor (List ℕ))} → r ≡ None
+    → stands_at part (length (until c part)) mark ≡ false → CutAt part c mark r
+not_cut part c mark is h = subst (CutAt part c mark) (sym is) h
+
+-- ---- a cut of what stands behind a place of the line
+
+module _ (l : List ℕ) (a c : ℕ) (mark : List ℕ) {part : List ℕ} (e : part ≡ drop a l) where
+  there : stands_at part (length (until c part)) mark ≡ stands_at l (end_at c l a) mark
   unfolding end_at
-  sought_found h e =
-      let empty : length (until c (drop i l)) ≡ 0 = ap length (rw (eq-eqb (get_or l i 0) c e) at (until_here h)) in omega (arith, q.so_far)
+  there =
+      ap (λ (p : List ℕ). stands_at p (length (until c p)) mark) e
+      ∙ ap (λ (p : List ℕ). same_bytes (take (length mark) p) mark) (drop-drop (length (until c (drop a l))) a l)
 
-  pub sought_more : i < length l → (get_or l i 0 ≡ c → ⊥) → Sought c l a (i + 1)
-  unfolding end_at
-  sought_more h e =
-      let longer : length (until c (drop i l)) ≡ suc (length (until c (drop (suc i) l))) =
-      ap length (rw (ne_eqb (get_or l i 0) c e) at (until_here h)) in
-      record { inside = omega arith; so_far = rw add-one (omega (arith, longer, q.so_far)) }
+  pub missing : stands_at part (length (until c part)) mark ≡ false → stands_at l (end_at c l a) mark ≡ false
+  missing h = sym there ∙ h
 
-  pub sought_end : length l ≤ i → i ≡ end_at c l a
-  unfolding end_at until
-  sought_end h =
-      let empty : length (until c (drop i l)) ≡ 0 = ap (λ (d : List ℕ). length (until c d)) (drop_of_length-le l {i = i} h) in
-      omega (arith, q.so_far)
+  module _ {text rest : List ℕ} (k : Cut part c mark text rest) where
+    pub text_here : text ≡ until c (drop a l)
+    text_here = k.text_is ∙ ap (until c) e
 
--- ---- text after text
+    pub stands_here : stands_at l (end_at c l a) mark ≡ true
+    stands_here = sym there ∙ k.stands
 
--- b says whether all marks up to an end stand; where they do, the end is this place
-pub record UpTo (b : Bool) (place : ℕ) (e : End) : Type 0 where
-  pub marked_is : e.marked ≡ b
-  pub at_is : b ≡ true → e.at ≡ place
+    pub rest_here : rest ≡ drop (end_at c l a + length mark) l
+    unfolding end_at
+    rest_here =
+        let n = length (until c (drop a l)) in
+        let place : a + (n + length mark) ≡ a + n + length mark = omega arith in
+        k.rest_is ∙ ap (λ (p : List ℕ). drop (length (until c p) + length mark) p) e ∙ drop-drop (n + length mark) a l
+        ∙ ap (λ (k : ℕ). drop k l) place
 
-pub up_to_next : {b : Bool} {place : ℕ} {l : List ℕ} {before e : End} {bytes c : ℕ} {mark : List ℕ} → UpTo b place before → NextEnd l before bytes c mark e
-    → UpTo (b && stands_at l (end_at c l (place + bytes)) mark) (end_at c l (place + bytes)) e
-up_to_next {b} {place} {l} {before} {e} {bytes} {c} {mark} q n = go b refl
-  where
-    go : (x : Bool) → b ≡ x → UpTo (x && stands_at l (end_at c l (place + bytes)) mark) (end_at c l (place + bytes)) e
-    go true h =
-        let stood = q.marked_is ∙ h in
-        let here = ap (λ (n : ℕ). end_at c l (n + bytes)) (q.at_is h) in
-        record {
-          marked_is = n.marked_is stood ∙ ap (λ (a : ℕ). stands_at l a mark) here;
-          at_is = λ all. n.at_is stood ∙ here;
-        }
-    go false h = record { marked_is = n.unmarked (q.marked_is ∙ h); at_is = λ all. absurd (false≢true all) }
+-- ---- a mark that is missing
 
-end_from : (c : ℕ) (l : List ℕ) (a : ℕ) → a ≤ end_at c l a
-unfolding end_at
-end_from c l a = omega arith
+module _ (l : List ℕ) where
+  pub no_texts : {r : Option Texts} → r ≡ None → is_marked l ≡ false → TextsOf l r
+  no_texts is h = subst (TextsOf l) (sym is) h
 
-pub all_ends : {l : List ℕ} {first time rows columns salt : End} → UpTo (stands_at l 0 start_mark) 0 first → NextEnd l first 9 44 rows_mark time
-    → NextEnd l time 3 44 columns_mark rows → NextEnd l rows 3 36 text_mark columns → NextEnd l columns 1 36 text_mark salt
-    → EndsOf l (record { marked = salt.marked; time = time.at; rows = rows.at; columns = columns.at; salt = salt.at })
-unfolding is_marked
-all_ends {l} f t r c s =
-    let time = up_to_next f t in
-    let rows = up_to_next time r in
-    let columns = up_to_next rows c in
-    let salt = up_to_next columns s in
-    record {
-      marked_is = salt.marked_is;
-      ends = λ marked.
-          let key = sym salt.marked_is ∙ marked in
-          let before-salt = (both key).0 in
-          let before-columns = (both before-salt).0 in
-          let before-rows = (both before-columns).0 in
-          let e₁ = time.at_is before-rows in
-          let e₂ = rows.at_is before-columns in
-          let e₃ = columns.at_is before-salt in
-          let e₄ = salt.at_is key in
-          record {
-            time_is = e₁;
-            rows_is = e₂;
-            columns_is = e₃;
-            salt_is = e₄;
-            time_from = omega (arith, e₁, end_from 44 l 9);
-            rows_from = omega (arith, e₁, e₂, end_from 44 l (time_end l + 3));
-            columns_from = omega (arith, e₂, e₃, end_from 36 l (rows_end l + 3));
-            salt_from = omega (arith, e₃, e₄, end_from 36 l (columns_end l + 1));
-            key_from = s.inside marked;
-          };
-    }
+  pub no_start : stands_at l 0 start_mark ≡ false → is_marked l ≡ false
+  unfolding is_marked
+  no_start h = simp h
 
--- the two ways a next end goes
-pub next_none : {l : List ℕ} {e : End} {bytes c : ℕ} {mark : List ℕ} → e.marked ≡ false → NextEnd l e bytes c mark e
-next_none missing =
-    record {
-      unmarked = λ h. missing;
-      marked_is = λ h. absurd (false≢true (sym missing ∙ h));
-      at_is = λ h. absurd (false≢true (sym missing ∙ h));
-      inside = λ h. absurd (false≢true (sym missing ∙ h));
-    }
+  pub no_rows : stands_at l (time_end l) rows_mark ≡ false → is_marked l ≡ false
+  unfolding is_marked
+  no_rows h = simp (h, and-false)
 
-pub next_found : {l : List ℕ} {before : End} {bytes c : ℕ} {mark : List ℕ} {place : ℕ} {stood : Bool} → before.marked ≡ true
-    → place ≡ end_at c l (before.at + bytes) → place ≤ length l → stood ≡ stands_at l place mark
-    → NextEnd l before bytes c mark (record { marked = stood; at = place })
-next_found {l} {mark = mark} {place = place} marked here fits told =
-    record {
-      unmarked = λ h. absurd (false≢true (sym h ∙ marked));
-      marked_is = λ h. told ∙ ap (λ (n : ℕ). stands_at l n mark) here;
-      at_is = λ h. here;
-      inside = λ h. stands_fits l place mark fits (sym told ∙ h);
-    }
+  pub no_columns : stands_at l (rows_end l) columns_mark ≡ false → is_marked l ≡ false
+  unfolding is_marked
+  no_columns h = simp (h, and-false)
+
+  pub no_salt : stands_at l (columns_end l) text_mark ≡ false → is_marked l ≡ false
+  unfolding is_marked
+  no_salt h = simp (h, and-false)
+
+  pub no_key : stands_at l (salt_end l) text_mark ≡ false → is_marked l ≡ false
+  unfolding is_marked
+  no_key h = simp (h, and-false)
+
+  -- ---- all marks
+
+  pub all_marked : stands_at l 0 start_mark ≡ true → stands_at l (time_end l) rows_mark ≡ true → stands_at l (rows_end l) columns_mark ≡ true
+      → stands_at l (columns_end l) text_mark ≡ true → stands_at l (salt_end l) text_mark ≡ true → is_marked l ≡ true
+  unfolding is_marked
+  all_marked a b c d e = simp (a, b, c, d, e)

@@ -1,2 +1,2 @@
--- Where the texts of a login line end.
-pub mod Ends
+-- A login line cut at its marks.
+pub mod Cuts

@@ -1,2 +1,2 @@
--- The laws of reading a login line.
+-- The laws of a reading.
 pub mod ReadLaws

@@ -1,2 +1,2 @@
--- The laws of the texts of a login line.
+-- The laws of the texts of a line.
 pub mod TextLaws

@@ -1,21 +1,21 @@
 -- What a writing answers, check by check. Assumes nothing.
-use mathlib.Core.Path.{◌≡◌, refl, sym, ap, ◌∙◌}
-use Prim.Native.Nat.{ℕ, ◌+◌, ◌≤◌, ◌<◌}
+use mathlib.Core.Path.{◌≡◌, sym, ap, subst, ◌∙◌}
+use Prim.Native.Nat.{ℕ, ◌<◌}
 use native.Mathlib.Omega.{arith}
-use mathlib.Core.Bool.{Bool, ◌||◌, false}
 use mathlib.Core.List.{List, [], ◌∷◌, ◌++◌, append_assoc}
 use lib.ListN.{length}
-use borrow.Author.Tests.{lt-ltb, le-ltb}
+use Rattle.std.specs.Prelude.{Result, Err}
 use Rattle.lists.specs.Zip.{zip_at}
 use Rattle.text.specs.Text.{Appended}
-use Rattle.refusals.specs.Checks.{◌≤?◌, Check, first, output_check, stored_checks}
-use Rattle.refusals.proofs.Accepted.{accepted, first_refused, first_passed, first_none, more_refuse, more_pass}
-use Rattle.refusals.proofs.Answered.{answered-yes, answered_no}
+use Rattle.refusals.specs.declared.Refusal.{Refusal}
+use Rattle.refusals.specs.Refusals.{number_of}
+use Rattle.refusals.specs.Checks.{◌≤?◌, Check, first, at_least, output_check, stored_checks}
+use Rattle.refusals.proofs.Accepted.{accepted}
+use Rattle.refusals.proofs.Chained.{refused, passed, answered_refused, answered_given}
 use Rattle.decimal.specs.Decimal.{decimal}
 use Rattle.base64_encoding.specs.Base64.{encode}
 use Rattle.line_form.specs.Line.{Values, start_mark, rows_mark, columns_mark, text_mark, joined, line_of, length_by}
-use Rattle.line_form.specs.Promises.{value_checks, write_checks, line_length, no_length, write_number, Written}
-use Rattle.line_form.specs.declared.LineLength.{LineLength}
+use Rattle.line_form.specs.Promises.{value_checks, write_checks, line_length, no_length, length_answer, write_number, Written}
 use Rattle.line_writing.specs.Values.{WithinLimits}
 use Rattle.line_form.proofs.Lengths.{line-length, line_most}
 
@@ -31,53 +31,46 @@ regrouped v =
     regroup start_mark (decimal v.parameters.time) rows_mark (decimal v.parameters.rows) columns_mark (decimal v.parameters.columns) text_mark
     (encode v.salt) (encode v.key)
 
-module _ (v : Values) {n : ℕ} (is : n ≡ first (value_checks v)) where
+module _ (v : Values) where
   -- what is known once the values are accepted
-  pub values_fit : n ≡ 0 → WithinLimits v.parameters (length v.salt) (length v.key)
+  pub values_fit : 0 ≡ first (value_checks v) → WithinLimits v.parameters (length v.salt) (length v.key)
   unfolding stored_checks
-  values_fit z =
-      let e = sym is ∙ z in
-      let bounds = accepted (value_checks v) (omega arith) e in
+  values_fit none =
+      let bounds = accepted (value_checks v) (omega arith) (sym none) in
       record {
         time_most = omega arith;
         rows_most = omega arith;
         columns_most = omega arith;
         salt_most = omega arith;
         key_most = omega arith;
-        line_most = omega (arith, line-length v, line_most v e);
+        line_most = omega (arith, line-length v, line_most v (sym none));
       }
 
   module _ (line : List ℕ) where
     abbrev room_check : Check
     room_check = output_check (length (line_of v) ≤? length line ∷ [])
 
-    refused : {m : ℕ} {r : LineLength} → m ≡ write_number v line → (m ≡ 0 → ⊥) → r ≡ no_length m → Written v line line r
-    refused e h f =
-        record { answer = answered_no _ _ e h (f ∙ ap no_length e); line_after = answered_no _ _ e h refl }
-
-    pub values_refused : {r : LineLength} → (n ≡ 0 → ⊥) → r ≡ no_length n → Written v line line r
+    pub values_number : {n : ℕ} → n ≡ first (value_checks v) → 0 < n → n ≡ write_number v line
     unfolding write_checks
-    values_refused h f = refused (more_refuse (value_checks v) (room_check ∷ []) is h) h f
+    values_number e h = refused (value_checks v) (room_check ∷ []) e h
 
-    module _ (z : n ≡ 0) where
-      -- the last check decides
-      room_number : {m : ℕ} → m ≡ first (room_check ∷ []) → m ≡ write_number v line
-      unfolding write_checks stored_checks
-      room_number e = more_pass (value_checks v) (room_check ∷ []) is (omega arith) z e
+    -- the last check decides; the code asks it of the length by the lengths of salt and key
+    pub room_number : {n k : ℕ} → 0 ≡ first (value_checks v) → k ≡ length_by v.parameters (length v.salt) (length v.key)
+        → n ≡ first (at_least 12 k (length line) ∷ []) → n ≡ write_number v line
+    unfolding write_checks stored_checks
+    room_number none is e =
+        passed (value_checks v) (room_check ∷ []) (omega arith) none
+        (e ∙ ap (λ (k : ℕ). first (at_least 12 k (length line) ∷ [])) (is ∙ sym (line-length v)))
 
-      pub room_refused : {k : ℕ} {r : LineLength} → k ≡ length_by v.parameters (length v.salt) (length v.key) → length line < k → r ≡ no_length 12
-          → Written v line line r
-      room_refused e h f =
-          let short = lt-ltb (length line) (length (line_of v)) (omega (arith, line-length v)) in
-          refused (room_number (sym (first_refused room_check [] (ap (λ (b : Bool). b || false) short)))) (λ zero. omega arith) f
+    pub write_refused : {x : Result ℕ Refusal} (r : Refusal) → x ≡ Err r → number_of r ≡ write_number v line → Written v line line (length_answer x)
+    write_refused r is e =
+        subst (λ x. Written v line line (length_answer x)) (sym is)
+        (record { answer = ap no_length e ∙ answered_refused r e _ _; line_after = answered_refused r e _ _ })
 
-      pub written : {k m : ℕ} {out : List ℕ} → k ≡ length_by v.parameters (length v.salt) (length v.key) → k ≤ length line
-          → Appended line out 0 (line_of v) m → Written v line out (record { refusal = 0; length = m })
-      unfolding zip_at line_length
-      written {m = m} e h put =
-          let long = le-ltb (length line) (length (line_of v)) (omega (arith, line-length v)) in
-          let none = sym (room_number (first_none ∙ sym (first_passed room_check [] (ap (λ (b : Bool). b || false) long)))) in
-          record {
-            answer = answered-yes _ _ none (ap line_length (put.next_is ∙ omega arith));
-            line_after = answered-yes _ _ none put.put;
-          }
+    pub written : {m : ℕ} {out : List ℕ} → 0 ≡ write_number v line → Appended line out 0 (line_of v) m → Written v line out (line_length m)
+    unfolding zip_at
+    written none put =
+        record {
+          answer = ap line_length (put.next_is ∙ omega arith) ∙ answered_given none _ _;
+          line_after = put.put ∙ answered_given none _ _;
+        }

@@ -6,13 +6,12 @@ ghost use Rattle.text.specs.Text.{Appended};
 ghost use Rattle.decimal.specs.Decimal.{decimal};
 ghost use Rattle.base64_encoding.specs.Base64.{encoded_length, encode};
 ghost use Rattle.line_form.specs.Line.{text_mark, line_of, length_by};
-ghost use Rattle.line_form.specs.Promises.{Written, no_length};
+ghost use Rattle.line_form.specs.Promises.{Written, length_answer};
 ghost use Rattle.line_writing.specs.Values.{values, WithinLimits};
 
 use base64_encoding::{append_encoded, encoded_length};
 use decimal::{append_decimal, decimal_length};
-use line_form::LineLength;
-use refusals::{OUTPUT_LENGTH, stored_refusal};
+use refusals::{Refusal, at_least, check_stored};
 use settings::StoredParameters;
 use text::append;
 
@@ -37,6 +36,7 @@ fn append_text(out: &mut [u8], at: usize, bytes: &[u8]) -> usize
     append_encoded(out, from, bytes)
 }
 
+#[tactic(auto, unfolding(line_form::specs::Line::length_by))]
 fn line_length(p: StoredParameters, salt: usize, key: usize) -> usize
     requires { WithinLimits p salt key }
     ensures { result ≡ length_by p salt key }
@@ -46,6 +46,7 @@ fn line_length(p: StoredParameters, salt: usize, key: usize) -> usize
 }
 
 // Puts the whole line at the start of an output that has room for it.
+#[tactic(auto, unfolding(line_form::specs::Line::length_by))]
 fn put_line(p: StoredParameters, salt: &[u8], key: &[u8], out: &mut [u8]) -> usize
     requires { WithinLimits p (length salt.now) (length key.now) × (length_by p (length salt.now) (length key.now) ≤ length out.old) }
     ensures { Appended out.old out.new 0 (line_of (values p salt.now key.now)) result }
@@ -57,27 +58,17 @@ fn put_line(p: StoredParameters, salt: &[u8], key: &[u8], out: &mut [u8]) -> usi
     append_text(out, end, key)
 }
 
-// The answer to a refused writing.
-fn no_length(number: u32) -> LineLength
-    ensures { result ≡ no_length number }
+// Writes a line at the start of the output, and answers its length.
+pub fn write_line(
+    p: StoredParameters,
+    salt: &[u8],
+    key: &[u8],
+    line: &mut [u8],
+) -> Result<usize, Refusal>
+    ensures { Written (values p salt.now key.now) line.old line.new (length_answer result) }
 {
-    LineLength {
-        refusal: number,
-        length: 0,
-    }
-}
-
-// Writes a line at the start of the output.
-pub fn write_line(p: StoredParameters, salt: &[u8], key: &[u8], line: &mut [u8]) -> LineLength
-    ensures { Written (values p salt.now key.now) line.old line.new result }
-{
-    let number = stored_refusal(key.len(), salt.len(), p);
-    if number != 0 {
-        return no_length(number);
-    }
-    if line.len() < line_length(p, salt.len(), key.len()) {
-        return no_length(OUTPUT_LENGTH);
-    }
-    let length = put_line(p, salt, key, line);
-    LineLength { refusal: 0, length }
+    check_stored(key.len(), salt.len(), p)?;
+    let length = line_length(p, salt.len(), key.len());
+    at_least(length, line.len(), Refusal::OutputLength)?;
+    Ok(put_line(p, salt, key, line))
 }

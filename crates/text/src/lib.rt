@@ -8,10 +8,8 @@ pub fn append(out: &mut [u8], at: usize, text: &[u8]) -> usize
     requires { at + length text.now ≤ length out.old }
     ensures { Appended out.old out.new at text.now result }
 {
-    let mut i = 0;
-    while i < text.len() {
-        out[at + i] = text[i];
-        i += 1;
+    for (i, byte) in text.iter().enumerate() {
+        out[at + i] = *byte;
     }
     at + text.len()
 }
@@ -21,15 +19,5 @@ pub fn stands_at(buffer: &[u8], at: usize, text: &[u8]) -> bool
     requires { at ≤ length buffer.now }
     ensures { result ≡ stands_at buffer.now at text.now }
 {
-    if buffer.len() - at < text.len() {
-        return false;
-    }
-    let mut i = 0;
-    while i < text.len() {
-        if buffer[at + i] != text[i] {
-            return false;
-        }
-        i += 1;
-    }
-    true
+    buffer[at..].starts_with(text)
 }

@@ -1,0 +1,2 @@
+-- The checks of a reading, as the code goes through them.
+pub mod Checks
