@@ -1,16 +1,18 @@
 -- A step of a reader, by what its place tells. Assumes nothing.
 use mathlib.Core.Path.{◌≡◌, refl, sym, ap, ap₂, ◌∙◌}
 use Prim.Native.Nat.{ℕ, ◌+◌, ◌≤◌, ◌<◌}
+use native.Mathlib.Decide.{dec_lt}
 use native.Mathlib.Omega.{arith}
-use mathlib.Core.Bool.{true, false}
+use mathlib.Core.Bool.{true, false, true≢false}
 use mathlib.Core.List.{List}
 use denote.Ref.{Bor}
 use lib.ListN.{length, drop, length-drop}
 use Rattle.std.specs.Prelude.{Option, Some, None}
 use Rattle.accounts.specs.declared.Entry.{Entry}
 use Rattle.accounts.specs.Accounts.{is_whole, whole_entry, nothing, entry_of}
+use Rattle.accounts.specs.Book.{Running}
 use Rattle.accounts.proofs.Decoding.{size_is, cut_off, whole_none, some_whole, no_whole, entry_none, entry_fits}
-use Rattle.accounts.proofs.Walking.{step_moves}
+use Rattle.accounts.proofs.Walking.{step_moves, running_whole}
 use Rattle.account_reader.specs.declared.Reader.{Reader}
 use Rattle.account_reader.specs.Steps.{Steps}
 
@@ -53,6 +55,12 @@ module _ {book : List ℕ} {at : ℕ} {s : Reader} (q : Stands book at s) where
   pub ended : {t : Reader} → Steps s None t → is_whole (drop at book) ≡ false
   ended k = no_whole (drop at book) (k.account ∙ ap whole_entry same_here)
 
+  pub stays_at : {t : Reader} → Steps s None t → t.at ≡ s.at
+  unfolding nothing
+  stays_at k =
+      let size = ap (λ (e : Entry). e.size) (entry_none (drop s.at s.book.now) (no_whole (drop s.at s.book.now) k.account)) in
+      omega (arith, k.place, size)
+
   module _ {t : Reader} {e : Entry} (k : Steps s (Some e) t) where
     pub told : (is_whole (drop at book) ≡ true) × (e ≡ entry_of (drop at book))
     told = some_whole (drop at book) (k.account ∙ ap whole_entry same_here)
@@ -75,3 +83,11 @@ module _ {book : List ℕ} {at : ℕ} {s : Reader} (q : Stands book at s) where
           same_book = ap (λ (b : Bor (List ℕ)). b.now) k.same_book ∙ q.same_book;
           same_place = k.place ∙ (λ i. q.same_place i + (entry_of (same_here i)).size) ∙ sym behind;
         }
+
+-- in a run a reader stops at the end alone
+pub run_over : {book : List ℕ} {at : ℕ} → Running book at → is_whole (drop at book) ≡ false → length book ≤ at
+run_over {book} {at} q none =
+    elim (dec_lt at (length book)) [
+      | yes more ↦ absurd (true≢false (sym (running_whole q more) ∙ none))
+      | no end ↦ omega arith
+    ]

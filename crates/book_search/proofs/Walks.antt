@@ -1,8 +1,6 @@
 -- A loop over a reader's accounts, which counts their bytes: what is known of the place that it has come to. Assumes nothing.
-use mathlib.Core.Path.{◌≡◌, sym, ap, ◌∙◌}
-use mathlib.Core.Bool.{true≢false}
+use mathlib.Core.Path.{◌≡◌, ap}
 use Prim.Native.Nat.{ℕ, ◌+◌}
-use native.Mathlib.Decide.{dec_lt}
 use native.Mathlib.Omega.{arith}
 use mathlib.Core.List.{List}
 use lib.Dec.{eqb}
@@ -11,10 +9,10 @@ use Rattle.std.specs.Prelude.{None, Some}
 use Rattle.accounts.specs.declared.Entry.{Entry}
 use Rattle.accounts.specs.Accounts.{encode_all, accounts}
 use Rattle.accounts.specs.Book.{place_of, is_run}
-use Rattle.accounts.proofs.Walking.{none_length, Counted, counted_more, running_whole, Searched, searched_found, searched_more, searched_end}
+use Rattle.accounts.proofs.Walking.{none_length, Counted, counted_more, Searched, searched_found, searched_more, searched_end}
 use Rattle.account_reader.specs.declared.Reader.{Reader}
 use Rattle.account_reader.specs.Steps.{Steps}
-use Rattle.account_reader.proofs.StepLaws.{Stands, ended, told, behind, before_end}
+use Rattle.account_reader.proofs.StepLaws.{Stands, ended, told, behind, before_end, run_over}
 
 module _ {book : List ℕ} {at : ℕ} {s : Reader} (q : Stands book at s) where
   -- ---- whether the bytes are a run
@@ -39,8 +37,4 @@ module _ {book : List ℕ} {at : ℕ} {s : Reader} (q : Stands book at s) where
     search_more k other = let more = before_end q k in searched_more searched (omega arith) (told q k).1 other (behind q k)
 
     pub search_end : {t : Reader} → Steps s None t → at ≡ place_of number (accounts book)
-    search_end k =
-        elim (dec_lt at (length book)) [
-          | yes more ↦ absurd (true≢false (sym (running_whole searched.running more) ∙ ended q k))
-          | no end ↦ searched_end searched (omega arith)
-        ]
+    search_end k = searched_end searched (run_over searched.running (ended q k))
