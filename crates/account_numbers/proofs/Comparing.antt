@@ -1,21 +1,24 @@
 -- Numbers among others: the steps of the loops that compare them, and a list whose numbers differ by its blocks. Assumes nothing.
-use mathlib.Core.Path.{◌≡◌, refl, sym, ap, ap₂, ◌∙◌}
+use mathlib.Core.Path.{◌≡◌, refl, sym, ap, ap₂, subst, ◌∙◌}
 use Prim.Native.Nat.{ℕ, suc, ◌+◌, ◌-◌, ◌≤◌, ◌<◌}
 use native.Mathlib.Numerals.{add-one}
 use native.Mathlib.Omega.{arith}
 use native.Mathlib.Decide.{ℕ_discrete}
-use mathlib.Core.Bool.{Bool, true, false, not, ◌&&◌, ◌||◌, or-true, or-false, or_assoc}
+use mathlib.Core.Bool.{Bool, true, false, not, ◌&&◌, ◌||◌, or_assoc}
 use mathlib.Core.List.{List, [], ◌∷◌, ◌++◌, append_assoc}
+use denote.Ref.{Bor}
 use lib.Dec.{eqb}
 use lib.ListN.{length, get_or, take, drop, set, length-set, length-drop, drop_of_length-le}
-use lib.Seq.{take-suc, take_all, drop-cons, take-suc-set}
+use lib.Seq.{take_all, drop-cons, take-suc-set}
 use borrow.Author.Tests.{eqb-true, eqb-false, eq-eqb, ne_eqb}
+use Rattle.std.specs.List.{list_any}
 use Rattle.accounts.specs.Accounts.{Account, accounts, entry_of}
 use Rattle.accounts.specs.Book.{has, distinct, Running}
 use Rattle.accounts.specs.declared.Entry.{Entry}
 use Rattle.accounts.proofs.Walking.{running_more, running_moves, running_accounts, running_number, running_end}
+use Rattle.account_reader.specs.declared.Reader.{Reader}
+use Rattle.account_reader.proofs.StepLaws.{Stands}
 use Rattle.account_numbers.specs.Numbers.{numbers_of, numbers_from, member, differ, meet, Collected}
-use Rattle.account_numbers.specs.declared.Block.{Block}
 
 -- ---- a number among others
 
@@ -24,32 +27,11 @@ unfolding member
 member-append x [] m = refl
 member-append x (y ∷ l) m = ap (λ (b : Bool). eqb y x || b) (member-append x l m) ∙ sym (or_assoc (eqb y x) (member x l) (member x m))
 
--- the first i are looked at
-pub record Looked (x : ℕ) (l : List ℕ) (found : Bool) (i : ℕ) : Type 0 where
-  pub inside : i ≤ length l
-  pub so_far : found ≡ member x (take i l)
-
-pub looked_none : {x : ℕ} {l : List ℕ} → Looked x l false 0
+-- the library's test of it
+pub member_is : (x : ℕ) (l : List ℕ) → list_any (λ y. eqb y x) l ≡ member x l
 unfolding member
-looked_none = record { inside = omega arith; so_far = refl }
-
-module _ {x : ℕ} {l : List ℕ} {found : Bool} {i : ℕ} (q : Looked x l found i) (h : i < length l) where
-  one_more : {b : Bool} → eqb (get_or l i 0) x ≡ b → (found || b) ≡ member x (take (suc i) l)
-  unfolding member
-  one_more e =
-      ap₂ (λ (a b : Bool). a || b) q.so_far (sym e ∙ sym (or-false (eqb (get_or l i 0) x)))
-      ∙ sym (ap (member x) (take-suc l i 0 h) ∙ member-append x (take i l) (get_or l i 0 ∷ []))
-
-  pub looked_found : get_or l i 0 ≡ x → {now : Bool} → now ≡ true → Looked x l now (i + 1)
-  looked_found e f =
-      record { inside = omega arith; so_far = rw add-one (f ∙ sym (or-true found) ∙ one_more (eq-eqb _ _ e)) }
-
-  pub looked_other : (get_or l i 0 ≡ x → ⊥) → {now : Bool} → now ≡ found → Looked x l now (i + 1)
-  looked_other e f =
-      record { inside = omega arith; so_far = rw add-one (f ∙ sym (or-false found) ∙ one_more (ne_eqb _ _ e)) }
-
-pub looked_end : {x : ℕ} {l : List ℕ} {found : Bool} {i : ℕ} → Looked x l found i → length l ≤ i → found ≡ member x l
-looked_end {x} {l} {i = i} q h = q.so_far ∙ ap (member x) (take_all i l h)
+member_is x [] = refl
+member_is x (y ∷ l) = ap (λ (b : Bool). eqb y x || b) (member_is x l)
 
 -- ---- numbers that all differ
 
@@ -153,6 +135,9 @@ module _ {book : List ℕ} {at : ℕ} (q : Running book at) where
 
 -- ---- a block that is being filled
 
+pub stood : {b : Bor (List ℕ)} {s : Reader} → s.book ≡ b → Stands b.now s.at s
+stood e = record { same_book = ap (λ (x : Bor (List ℕ)). x.now) e; same_place = refl }
+
 pub record Collecting (book : List ℕ) (at : ℕ) (block : List ℕ) (room count end : ℕ) : Type 0 where
   pub long : length block ≡ room
   pub some_room : 0 < room
@@ -198,7 +183,7 @@ module _ {book : List ℕ} {at : ℕ} {block : List ℕ} {room count end : ℕ} 
       go (yes z) p = omega (arith, q.none_yet z)
       go (no n) p = omega (arith, q.moved (omega (arith, n)))
 
-  pub collecting_end : (count < room → length book ≤ end) → Collected book at block (record { count = count; end = end })
+  pub collecting_end : (count < room → length book ≤ end) → Collected book at block count end
   collecting_end h =
       record {
         count_most = omega (arith, q.count_most, q.long);
@@ -210,6 +195,9 @@ module _ {book : List ℕ} {at : ℕ} {block : List ℕ} {room count end : ℕ} 
       go : at < length book → Dec (count ≡ 0) → at < end
       go lt (yes z) = absurd (omega (arith, q.none_yet z, h (omega (arith, q.some_room))))
       go lt (no n) = q.moved (omega (arith, n))
+
+pub of_book : {a b block : List ℕ} {at count end : ℕ} → a ≡ b → Collected a at block count end → Collected b at block count end
+of_book {block = block} {at = at} {count = count} {end = end} e k = subst (λ l. Collected l at block count end) e k
 
 -- ---- the accounts behind a block
 
@@ -248,12 +236,12 @@ pub record Distinct (book : List ℕ) (at : ℕ) : Type 0 where
 pub distinct_none : {book : List ℕ} → Running book 0 → Distinct book 0
 distinct_none {book} q = record { running = q; others = sym (distinct-numbers (accounts book)) }
 
-module _ {book : List ℕ} {at : ℕ} {block : List ℕ} {b : Block} (q : Distinct book at) (k : Collected book at block b) where
+module _ {book : List ℕ} {at : ℕ} {block : List ℕ} {count end : ℕ} (q : Distinct book at) (k : Collected book at block count end) where
   abbrev held : List ℕ
-  held = take b.count block
+  held = take count block
 
   abbrev rest : List ℕ
-  rest = numbers_from book b.end
+  rest = numbers_from book end
 
   parts : {s t : Bool} → differ held ≡ s → meet held rest ≡ t → (s && (not t && differ rest)) ≡ distinct (accounts book)
   parts e f =
@@ -265,7 +253,7 @@ module _ {book : List ℕ} {at : ℕ} {block : List ℕ} {b : Block} (q : Distin
   pub distinct_met : differ held ≡ true → meet held rest ≡ true → false ≡ distinct (accounts book)
   distinct_met e f = parts e f
 
-  pub distinct_more : differ held ≡ true → meet held rest ≡ false → Distinct book b.end
+  pub distinct_more : differ held ≡ true → meet held rest ≡ false → Distinct book end
   distinct_more e f = record { running = k.running; others = parts e f }
 
 pub distinct_end : {book : List ℕ} {at : ℕ} → Distinct book at → length book ≤ at → true ≡ distinct (accounts book)

@@ -2,7 +2,6 @@
 use Rattle.std.specs.Prelude.{◌≡◌, Bool, true, false, not, ◌&&◌, ◌||◌, ℕ, ◌≤◌, ◌<◌, List, [], ◌∷◌, ◌++◌, eqb, length, take, drop}
 use Rattle.accounts.specs.Accounts.{Account, accounts}
 use Rattle.accounts.specs.Book.{Running}
-use Rattle.account_numbers.specs.declared.Block.{Block}
 
 unfoldable pub numbers_of : List Account → List ℕ
 numbers_of [] = []
@@ -26,9 +25,9 @@ unfoldable pub meet : List ℕ → List ℕ → Bool
 meet block [] = false
 meet block (x ∷ l) = member x block || meet block l
 
--- the numbers from a place on are those of a block and those from the block's end on
-pub record Collected (book : List ℕ) (at : ℕ) (block : List ℕ) (b : Block) : Type 0 where
-  pub count_most : b.count ≤ length block
-  pub moves : at < length book → at < b.end
-  pub running : Running book b.end
-  pub numbers : numbers_from book at ≡ take b.count block ++ numbers_from book b.end
+-- the numbers from a place on are those of a block, of so many, and those from a later place on
+pub record Collected (book : List ℕ) (at : ℕ) (block : List ℕ) (count end : ℕ) : Type 0 where
+  pub count_most : count ≤ length block
+  pub moves : at < length book → at < end
+  pub running : Running book end
+  pub numbers : numbers_from book at ≡ take count block ++ numbers_from book end

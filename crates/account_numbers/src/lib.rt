@@ -5,79 +5,50 @@
 ghost use Rattle.std.specs.Prelude.{◌≡◌, true, ◌<◌, length};
 ghost use Rattle.accounts.specs.Accounts.{accounts};
 ghost use Rattle.accounts.specs.Book.{distinct, is_run, Running};
-ghost use Rattle.account_numbers.specs.Numbers.{numbers_from, member, differ, meet, Collected};
+ghost use Rattle.account_numbers.specs.Numbers.{numbers_from, differ, meet, Collected};
 
-use account_reader::{account_at, place_after};
+use account_reader::Reader;
 
 // How many numbers are held at a time.
 const BLOCK: usize = 128;
-
-// Whether a number is among others. All are looked at, so that several are compared at once.
-fn contains(numbers: &[u32], number: u32) -> bool
-    ensures { result ≡ member number numbers.now }
-{
-    let mut found = false;
-    let mut i = 0;
-    while i < numbers.len() {
-        if numbers[i] == number {
-            found = true;
-        }
-        i += 1;
-    }
-    found
-}
 
 // Whether all of some numbers differ.
 fn all_differ(numbers: &[u32]) -> bool
     ensures { result ≡ differ numbers.now }
 {
-    let mut i = 0;
-    while i < numbers.len() {
-        if contains(&numbers[i + 1..], numbers[i]) {
+    for (i, number) in numbers.iter().enumerate() {
+        if numbers[i + 1..].contains(number) {
             return false;
         }
-        i += 1;
     }
     true
 }
 
-// How many numbers a block has, and the place of the account behind them.
-#[derive(Clone, Copy)]
-pub struct Block {
-    pub count: usize,
-    pub end: usize,
-}
-
-// Puts the numbers of the accounts from a place on into a block, as many as it has room for.
-fn collect(book: &[u8], at: usize, block: &mut [u32]) -> Block
-    requires { Running book.now at × (0 < length block.old) }
-    ensures collected { Collected book.now at block.new result }
+// Puts the numbers of a reader's next accounts into a block, as many as it has room for, and answers how many.
+fn collect(reader: &mut Reader<'_>, block: &mut [u32]) -> usize
+    requires { Running reader.old.book.now reader.old.at × (0 < length block.old) }
+    ensures collected { Collected reader.old.book.now reader.old.at block.new result reader.new.at }
+    ensures same_book { reader.new.book ≡ reader.old.book }
     ensures block_len_unchanged { length block.new ≡ length block.old }
 {
-    let mut count = 0;
-    let mut end = at;
-    while count < block.len() {
-        if end == book.len() {
-            return Block { count, end };
-        }
-        block[count] = account_at(book, end).number;
-        count += 1;
-        end = place_after(book, end);
+    for i in 0..block.len() {
+        let Some(account) = reader.next() else {
+            return i;
+        };
+        block[i] = account.number;
     }
-    Block { count, end }
+    block.len()
 }
 
-// Whether an account from a place on has one of the numbers of a block.
-fn meets(book: &[u8], at: usize, block: &[u32]) -> bool
-    requires { Running book.now at }
-    ensures { result ≡ meet block.now (numbers_from book.now at) }
+// Whether one of a reader's next accounts has one of the numbers of a block.
+fn meets(reader: Reader<'_>, block: &[u32]) -> bool
+    requires { Running reader.book.now reader.at }
+    ensures { result ≡ meet block.now (numbers_from reader.entry.book.now reader.entry.at) }
 {
-    let mut here = at;
-    while here < book.len() {
-        if contains(block, account_at(book, here).number) {
+    for account in reader {
+        if block.contains(&account.number) {
             return true;
         }
-        here = place_after(book, here);
     }
     false
 }
@@ -97,16 +68,13 @@ pub fn are_distinct(book: &[u8]) -> bool
         x, x, x, x, x, x, x, x, x, x, x, x, x, x, x, x, x, x, x, x, x, x, x, x, x, x, x, x, x, x,
         x, x, x, x, x, x, x, x,
     ];
-    let mut at = 0;
-    while at < book.len() {
-        let b = collect(book, at, &mut block);
-        if !all_differ(&block[..b.count]) {
+    let mut reader = Reader::new(book, 0);
+    while reader.at < book.len() {
+        let count = collect(&mut reader, &mut block);
+        let numbers = &block[..count];
+        if !all_differ(numbers) || meets(reader, numbers) {
             return false;
         }
-        if meets(book, b.end, &block[..b.count]) {
-            return false;
-        }
-        at = b.end;
     }
     true
 }

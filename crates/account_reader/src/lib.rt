@@ -1,11 +1,11 @@
-// A reader over a lent book of accounts, which steps from account to account: the book's slice and a place in it. Its functions are thin;
-// the work is that of `account_heads`, over a slice and a number. What has plain parameters serves the loops over a book.
+// A reader over a lent book of accounts, which steps from account to account: the book's slice and a place in it.
 #![tactic(auto)]
 
-ghost use Rattle.std.specs.Prelude.{◌≡◌, ◌+◌, drop};
-ghost use Rattle.accounts.specs.Accounts.{entry_of};
+ghost use Rattle.std.specs.Prelude.{◌≡◌, ◌-◌, length, drop};
+ghost use Rattle.std.specs.Iterator.{at_most};
+ghost use Rattle.accounts.specs.Accounts.{whole_entry};
+ghost use Rattle.account_reader.specs.Steps.{Steps};
 
-use account_heads::entry_at;
 use accounts::Entry;
 
 #[derive(Clone, Copy)]
@@ -14,54 +14,39 @@ pub struct Reader<'a> {
     pub at: usize,
 }
 
-// The place behind the account at a place, the place itself where there is none.
-pub fn after(book: &[u8], at: usize) -> usize
-    ensures { result ≡ at + (entry_of (drop at book.now)).size }
-{
-    at + entry_at(book, at).size
+impl<'a> Reader<'a> {
+    pub fn new(book: &'a [u8], at: usize) -> Reader<'a>
+        ensures { (result.book ≡ book.entry) × (result.at ≡ at) }
+    {
+        Reader { book, at }
+    }
+
+    // The account at its place, if a whole one stands there.
+    pub fn account(&self) -> Option<Entry>
+        ensures { result ≡ whole_entry (drop self.now.at self.now.book.now) }
+    {
+        account_heads::whole_entry(self.book.get(self.at..)?)
+    }
 }
 
-// A reader at a place.
-pub fn reader_at<'a>(book: &'a [u8], at: usize) -> Reader<'a>
-    ensures { (result.book ≡ book.entry) × (result.at ≡ at) }
-{
-    Reader { book, at }
-}
+// Each account in turn; a reader stops where no whole one stands.
+impl<'a> Iterator for Reader<'a> {
+    type Item = Entry;
 
-// Its place.
-pub fn place<'a>(r: Reader<'a>) -> usize
-    ensures { result ≡ r.entry.at }
-{
-    r.at
-}
+    ghost next_gives = { Steps };
 
-// The account at its place.
-pub fn account<'a>(r: Reader<'a>) -> Entry
-    ensures { result ≡ entry_of (drop r.entry.at r.entry.book.now) }
-{
-    entry_at(r.book, r.at)
-}
+    ghost remaining = { λ s. at_most (length s.book.now - s.at) };
 
-// The reader behind that account.
-pub fn next<'a>(r: Reader<'a>) -> Reader<'a>
-    ensures { (result.book ≡ r.entry.book) × (result.at ≡ r.entry.at + (entry_of (drop r.entry.at r.entry.book.now)).size) }
-{
-    Reader {
-        book: r.book,
-        at: after(r.book, r.at),
+    fn next(&mut self) -> Option<Entry> {
+        let account = self.account()?;
+        self.at += account.size;
+        Some(account)
     }
 }
 
 // What a reader at a place tells.
-pub fn account_at(book: &[u8], at: usize) -> Entry
-    ensures { result ≡ entry_of (drop at book.now) }
+pub fn account_at(book: &[u8], at: usize) -> Option<Entry>
+    ensures { result ≡ whole_entry (drop at book.now) }
 {
-    account(reader_at(book, at))
-}
-
-// Where its next step leads.
-pub fn place_after(book: &[u8], at: usize) -> usize
-    ensures { result ≡ at + (entry_of (drop at book.now)).size }
-{
-    place(next(reader_at(book, at)))
+    Reader::new(book, at).account()
 }

@@ -7,13 +7,14 @@ use mathlib.Core.List.{List, [], ◌∷◌}
 use lib.Dec.{eqb, leb}
 use lib.ListN.{length, take, drop, length-append, length-take, length-drop}
 use borrow.Author.Tests.{leb-true, le-leb, lt-leb, eqb-true, eq-eqb, ne_eqb}
+use Rattle.std.specs.Prelude.{Option, Some, None, unwrap_or}
 use Rattle.little_endian.proofs.ByteLaws.{length_bytes}
 use Rattle.settings.specs.declared.StoredParameters.{StoredParameters}
 use Rattle.refusals.specs.Checks.{first, stored_checks}
 use Rattle.refusals.proofs.Accepted.{accepted}
 use Rattle.text.specs.Text.{stands_at}
 use Rattle.lists.specs.Every.{same_bytes}
-use Rattle.accounts.specs.Accounts.{Account, mark, head_bytes, head, encode, encode_all, head_of, limits, is_whole, nothing, entry_of, account_of, accounts_after, accounts}
+use Rattle.accounts.specs.Accounts.{Account, mark, head_bytes, head, encode, encode_all, head_of, limits, is_whole, whole_entry, nothing, entry_of, account_of, accounts_after, accounts}
 use Rattle.accounts.specs.declared.Entry.{Entry}
 
 -- ---- sizes
@@ -166,3 +167,35 @@ entry_fits u = go (is_whole u) refl
     go : (t : Bool) → is_whole u ≡ t → (entry_of u).size ≤ length u
     go true e = omega (arith, ap (λ (x : Entry). x.size) (entry_whole u e), (whole u e).fits)
     go false e = omega (arith, ap (λ (x : Entry). x.size) (entry_none u e))
+
+-- ---- the same, if there is one
+
+pub entry_or : (u : List ℕ) → entry_of u ≡ unwrap_or (whole_entry u) nothing
+unfolding whole_entry
+entry_or u = go (is_whole u) refl
+  where
+    go : (t : Bool) → is_whole u ≡ t → entry_of u ≡ unwrap_or (whole_entry u) nothing
+    go true e = entry_whole u e ∙ sym (ap (λ (t : Bool). unwrap_or (cond t (Some (head_of u)) None) nothing) e)
+    go false e = entry_none u e ∙ sym (ap (λ (t : Bool). unwrap_or (cond t (Some (head_of u)) None) nothing) e)
+
+pub whole_some : (u : List ℕ) → is_whole u ≡ true → whole_entry u ≡ Some (head_of u)
+unfolding whole_entry
+whole_some u e = ap (λ (t : Bool). cond t (Some (head_of u)) None) e
+
+pub whole_none : (u : List ℕ) → is_whole u ≡ false → whole_entry u ≡ None
+unfolding whole_entry
+whole_none u e = ap (λ (t : Bool). cond t (Some (head_of u)) None) e
+
+pub some_whole : (u : List ℕ) {e : Entry} → Some e ≡ whole_entry u → (is_whole u ≡ true) × (e ≡ entry_of u)
+some_whole u {e} h = go (is_whole u) refl
+  where
+    go : (t : Bool) → is_whole u ≡ t → (is_whole u ≡ true) × (e ≡ entry_of u)
+    go true w = let told = h ∙ whole_some u w in let same : e ≡ head_of u = cc in (w, same ∙ sym (entry_whole u w))
+    go false w = let told = h ∙ whole_none u w in absurd (cc)
+
+pub no_whole : (u : List ℕ) → None ≡ whole_entry u → is_whole u ≡ false
+no_whole u h = go (is_whole u) refl
+  where
+    go : (t : Bool) → is_whole u ≡ t → t ≡ false
+    go true w = let told = h ∙ whole_some u w in absurd (cc)
+    go false w = refl

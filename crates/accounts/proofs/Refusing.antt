@@ -13,8 +13,7 @@ use Rattle.refusals.proofs.Accepted.{neither, first_refused, first_passed}
 use Rattle.refusals.proofs.Answered.{answered-yes, answered_no}
 use Rattle.accounts.specs.Accounts.{Account, encode_all, accounts}
 use Rattle.accounts.specs.Book.{has, distinct, place_of, is_run, is_book}
-use Rattle.accounts.specs.Promises.{accounts_in, good_book, placed, no_place, find_checks, find_number, find_answer}
-use Rattle.accounts.specs.declared.BookAnswer.{BookAnswer}
+use Rattle.accounts.specs.Promises.{BookAnswer, accounts_in, good_book, placed, no_place, find_checks, find_number, find_answer}
 use Rattle.accounts.proofs.Walking.{run}
 use Rattle.accounts.proofs.Changing.{book_run, found-place, missing-place}
 

@@ -16,8 +16,7 @@ use Rattle.refusals.proofs.Accepted.{accepted, flag-set, first_refused, first_pa
 use Rattle.refusals.proofs.Answered.{answered-yes, answered_no, answered_is, answered_number}
 use Rattle.accounts.specs.Accounts.{Account, head_bytes, encode, encode_all, accounts, entry_of}
 use Rattle.accounts.specs.Book.{has, place_of, without, with, is_book, rewritten}
-use Rattle.accounts.specs.Promises.{accounts_in, good_book, placed, no_place, find_checks, find_number, find_answer, Removed, add_checks, add_number, Added}
-use Rattle.accounts.specs.declared.BookAnswer.{BookAnswer}
+use Rattle.accounts.specs.Promises.{BookAnswer, accounts_in, good_book, placed, no_place, find_checks, find_number, find_answer, Removed, add_checks, add_number, Added}
 use Rattle.accounts.proofs.Decoding.{length-encode, entry_fits}
 use Rattle.accounts.proofs.Walking.{run}
 use Rattle.accounts.proofs.Changing.{encode-append, book_run, place_most, others_bytes, others_length}

@@ -1,5 +1,5 @@
 -- An account, and accounts as bytes: mark, number, T, R, C, the lengths of salt and key, salt, key.
-use Rattle.std.specs.Prelude.{ℕ, zero, suc, ◌+◌, ◌-◌, ◌^◌, ◌<◌, ◌≡◌, Bool, cond, ◌&&◌, List, [], ◌∷◌, ◌++◌, eqb, leb, length, get_or, take, drop}
+use Rattle.std.specs.Prelude.{ℕ, zero, suc, ◌+◌, ◌-◌, ◌^◌, ◌<◌, ◌≡◌, Bool, cond, ◌&&◌, List, [], ◌∷◌, ◌++◌, eqb, leb, length, get_or, take, drop, Option, Some, None}
 use Rattle.little_endian.specs.Bytes.{le_value, le_bytes}
 use Rattle.settings.specs.declared.StoredParameters.{StoredParameters}
 use Rattle.refusals.specs.Checks.{Check, first, stored_checks}
@@ -58,7 +58,11 @@ limits e = stored_checks e.key e.salt e.parameters
 unfoldable pub is_whole : List ℕ → Bool
 is_whole bytes = stands_at bytes 0 mark && eqb (first (limits (head_of bytes))) 0 && leb (head_of bytes).size (length bytes)
 
--- what stands in front: an account's numbers, or zeros where there is none
+-- what stands in front: an account's numbers, if there is one
+unfoldable pub whole_entry : List ℕ → Option Entry
+whole_entry bytes = cond (is_whole bytes) (Some (head_of bytes)) None
+
+-- the same with zeros where there is none
 unfoldable pub nothing : Entry
 nothing = record { size = 0; number = 0; parameters = record { time = 0; rows = 0; columns = 0 }; salt = 0; key = 0 }
 

@@ -1,13 +1,14 @@
 -- What the operations on a book promise: the answer, and what they leave in the lent slice, which is `book` before the call and `book'`
 -- after it.
-use Rattle.std.specs.Prelude.{◌≡◌, ℕ, List, [], ◌∷◌, ◌++◌, length, take}
+use Rattle.std.specs.Prelude.{◌≡◌, ℕ, List, [], ◌∷◌, ◌++◌, length, take, Result, Ok, Err}
 use Rattle.settings.specs.Settings.{usual}
 use Rattle.settings.specs.declared.Parameters.{Parameters}
 use Rattle.settings.specs.declared.StoredParameters.{StoredParameters}
+use Rattle.refusals.specs.Refusals.{number_of}
+use Rattle.refusals.specs.declared.Refusal.{Refusal}
 use Rattle.refusals.specs.Checks.{Check, first, answered, password_check, matrix_check, book_check, account_check, book_room_check, stored_checks}
 use Rattle.accounts.specs.Accounts.{Account, encode_all, accounts}
 use Rattle.accounts.specs.Book.{has, found, place_of, without, with, is_book, rewritten}
-use Rattle.accounts.specs.declared.BookAnswer.{BookAnswer}
 
 -- the account that a caller gives part by part
 abbrev pub account : ℕ → StoredParameters → List ℕ → List ℕ → Account
@@ -20,11 +21,21 @@ accounts_in used book = accounts (take used book)
 abbrev pub good_book : ℕ → List ℕ → Check
 good_book used book = book_check used (length book) (is_book (take used book))
 
+-- 0 or the number of a refusal, and a place in the book: of the account that was looked for, or where the used part now ends
+pub record BookAnswer : Type 0 where
+  pub refusal : ℕ
+  pub place : ℕ
+
 unfoldable pub placed : ℕ → BookAnswer
 placed place = record { refusal = 0; place = place }
 
 unfoldable pub no_place : ℕ → BookAnswer
 no_place number = record { refusal = number; place = 0 }
+
+-- what the code answers, as such a record
+abbrev pub place_answer : Result ℕ Refusal → BookAnswer
+place_answer (Ok place) = placed place
+place_answer (Err r) = no_place (number_of r)
 
 abbrev pub book_answer : ℕ → ℕ → BookAnswer
 book_answer number place = answered number (placed place) (no_place number)

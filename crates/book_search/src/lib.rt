@@ -5,21 +5,17 @@ ghost use Rattle.std.specs.Prelude.{◌≡◌, true};
 ghost use Rattle.accounts.specs.Accounts.{accounts};
 ghost use Rattle.accounts.specs.Book.{is_run, place_of};
 
-use account_reader::{account_at, place_after};
+use account_reader::Reader;
 
 // Whether the bytes are whole accounts within the limits and nothing else.
 pub fn is_run(book: &[u8]) -> bool
     ensures { result ≡ is_run book.now }
 {
-    let mut at = 0;
-    while at < book.len() {
-        let next = place_after(book, at);
-        if next == at {
-            return false;
-        }
-        at = next;
+    let mut end = 0;
+    for account in Reader::new(book, 0) {
+        end += account.size;
     }
-    true
+    end == book.len()
 }
 
 // The place of the account of a number, the end where there is none.
@@ -27,12 +23,12 @@ pub fn place_of(book: &[u8], number: u32) -> usize
     requires { is_run book.now ≡ true }
     ensures { result ≡ place_of number (accounts book.now) }
 {
-    let mut at = 0;
-    while at < book.len() {
-        if account_at(book, at).number == number {
-            return at;
+    let mut place = 0;
+    for account in Reader::new(book, 0) {
+        if account.number == number {
+            return place;
         }
-        at = place_after(book, at);
+        place += account.size;
     }
-    at
+    place
 }

@@ -17,10 +17,7 @@ fn used_byte(book: &[u8], used: usize, from: usize, i: usize) -> u8
     requires { (from ≤ used) × (used ≤ length book.now) }
     ensures { result ≡ get_or (drop from (take used book.now)) i 0 }
 {
-    if i < used - from {
-        return book[from + i];
-    }
-    0
+    book[from..used].get(i).copied().unwrap_or(0)
 }
 
 // Takes the bytes of an account out of the used part: the later ones move up, and those that are no longer used become zero. Both are done
@@ -30,10 +27,8 @@ pub fn take_out(book: &mut [u8], used: usize, place: usize, size: usize)
     ensures { book.new ≡ zip_at (λ x y. y) place book.old (drop (place + size) (take used book.old) ++ replicate size 0) }
 {
     let from = place + size;
-    let mut moved = 0;
-    while moved < used - place {
+    for moved in 0..used - place {
         book[place + moved] = used_byte(book, used, from, moved);
-        moved += 1;
     }
 }
 
@@ -43,10 +38,8 @@ fn append_number(book: &mut [u8], at: usize, x: u64, n: usize) -> usize
     ensures appended { Appended book.old book.new at (le_bytes n x) result }
     ensures value { result ≡ at + n }
 {
-    let mut i = 0;
-    while i < n {
+    for i in 0..n {
         book[at + i] = byte_of(x, i);
-        i += 1;
     }
     at + n
 }

@@ -1,14 +1,14 @@
 -- An answer under a C name: its number is returned, and its other fields are stored where the caller lends a place for them.
-use Rattle.std.specs.Prelude.{Bool, ℕ, List, get_or}
+use Rattle.std.specs.Prelude.{Bool, ℕ, List, get_or, Result, Ok, Err}
 use Rattle.mixer.specs.Mixers.{mixer_of}
 use Rattle.settings.specs.declared.Parameters.{Parameters}
 use Rattle.settings.specs.declared.StoredParameters.{StoredParameters}
 use Rattle.settings.specs.declared.Lengths.{Lengths}
+use Rattle.refusals.specs.declared.Refusal.{Refusal}
 use Rattle.derivation.specs.Answers.{Costs}
 use Rattle.choice.specs.declared.Limits.{Limits}
 use Rattle.choice.specs.Choice.{Choice}
-use Rattle.line_form.specs.declared.LineValues.{LineValues}
-use Rattle.line_form.specs.declared.LineLength.{LineLength}
+use Rattle.line_form.specs.Promises.{LineValues, LineLength}
 use Rattle.accounts.specs.declared.BookAnswer.{BookAnswer}
 use Rattle.accounts.specs.declared.Entry.{Entry}
 
@@ -69,3 +69,8 @@ stored_entry size values =
       salt = get_or values 4 0;
       key = get_or values 5 0;
     }
+
+-- what is given, or zeros where a check refused
+abbrev pub given_or : {A : Type 0} → A → Result A Refusal → A
+given_or zeros (Ok a) = a
+given_or zeros (Err r) = zeros

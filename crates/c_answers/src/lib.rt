@@ -3,75 +3,125 @@
 #![tactic(auto)]
 
 ghost use Rattle.std.specs.Prelude.{◌≡◌, [], ◌∷◌};
-ghost use Rattle.derivation.specs.Answers.{flag as «number_of_lem»};
-ghost use Rattle.c_answers.specs.Stored.{stored as «counts-stored», stored_choice, stored_values, stored_length, stored_place, stored_entry};
+ghost use Rattle.refusals.specs.Refusals.{answer_number};
+ghost use Rattle.derivation.specs.Answers.{costs_answer};
+ghost use Rattle.checking.specs.Answers.{checked_costs, checked_same};
+ghost use Rattle.recorded.specs.Answers.{recorded_costs, recorded_state};
+ghost use Rattle.choice.specs.Choice.{chosen_answer};
+ghost use Rattle.line_form.specs.Promises.{values_answer};
+ghost use Rattle.c_answers.specs.Stored.{stored as «counts-stored», stored_choice, stored_values, stored_place, stored_entry, given_or};
 
 use accounts::{BookAnswer, Entry};
 use checking::Checked;
-use choice::Choice;
-use derivation::Costs;
-use line_form::{LineLength, LineValues};
+use choice::ChosenCosts;
+use derivation::Spent;
+use line_form::LineValues;
 use packing::Pair;
 use recorded::Recording;
-use walk_question::WalkAnswer;
+use refusals::Refusal;
 
-// Stores the counts of an answer, and returns its number.
-pub fn store_costs(a: Costs, counts: &mut [u64; 3]) -> u32
-    ensures { «counts-stored» result counts.new ≡ a }
+#[tactic(auto, unfolding(derivation::specs::Answers::no_costs))]
+// Stores the counts of a call.
+pub fn store_costs(a: Result<Spent, Refusal>, counts: &mut [u64; 3]) -> u32
+    ensures { «counts-stored» result counts.new ≡ costs_answer a }
 {
-    *counts = [a.full, a.reduced, a.rounds];
-    a.refusal
-}
-
-// Stores 1 for yes and 0 for no.
-pub fn store_same(a: Checked, same: &mut u32)
-    ensures { same.new ≡ «number_of_lem» a.same }
-{
-    if a.same {
-        *same = 1;
-    } else {
-        *same = 0;
+    match a {
+        Ok(spent) => {
+            *counts = [spent.full, spent.reduced, spent.rounds];
+            0
+        }
+        Err(refusal) => {
+            *counts = [0; 3];
+            refusal.into()
+        }
     }
 }
 
-// Stores the state of a recording.
-pub fn store_state(a: Recording, state: &mut [u64; 16])
-    ensures { state.new ≡ a.state }
+// Stores 1 for yes and 0 for no, and the counts.
+pub fn store_check(a: Result<Checked, Refusal>, same: &mut u32, counts: &mut [u64; 3]) -> u32
+    ensures { («counts-stored» result counts.new ≡ checked_costs a) × (same.new ≡ checked_same a) }
 {
-    let words = a.state;
-    *state = words;
+    match a {
+        Ok(checked) => {
+            *same = u32::from(checked.same);
+            store_costs(Ok(checked.spent), counts)
+        }
+        Err(refusal) => {
+            *same = 0;
+            store_costs(Err(refusal), counts)
+        }
+    }
 }
 
-// Stores a row, and returns the number of the answer.
-pub fn store_row(a: WalkAnswer, row1: &mut usize) -> u32
-    ensures { (result ≡ a.refusal) × (row1.new ≡ a.row1) }
+// Stores the state of a recording, and the counts.
+pub fn store_recording(
+    a: Result<Recording, Refusal>,
+    state: &mut [u64; 16],
+    counts: &mut [u64; 3],
+) -> u32
+    ensures { («counts-stored» result counts.new ≡ recorded_costs a) × (state.new ≡ recorded_state a) }
 {
-    *row1 = a.row1;
-    a.refusal
+    match a {
+        Ok(recording) => {
+            let words = recording.state;
+            *state = words;
+            store_costs(Ok(recording.spent), counts)
+        }
+        Err(refusal) => {
+            *state = [0; 16];
+            store_costs(Err(refusal), counts)
+        }
+    }
 }
 
-// Stores a choice of costs, and returns the number of the answer.
-pub fn store_choice(a: Choice, values: &mut [usize; 4]) -> u32
-    ensures { stored_choice result values.new ≡ a }
+// Stores a single number: a row, a place or a length.
+pub fn store_number(a: Result<usize, Refusal>, number: &mut usize) -> u32
+    ensures { (result ≡ answer_number a) × (number.new ≡ given_or 0 a) }
 {
-    *values = [a.time, a.rows, a.columns, a.shortfall];
-    a.refusal
+    match a {
+        Ok(given) => {
+            *number = given;
+            0
+        }
+        Err(refusal) => {
+            *number = 0;
+            refusal.into()
+        }
+    }
 }
 
-// Stores the values of a login line, and returns the number of the answer.
-pub fn store_values(a: LineValues, values: &mut [usize; 5]) -> u32
-    ensures { stored_values result values.new ≡ a }
+#[tactic(auto, unfolding(choice::specs::Choice::no_choice))]
+// Stores a choice of costs.
+pub fn store_choice(a: Result<ChosenCosts, Refusal>, values: &mut [usize; 4]) -> u32
+    ensures { stored_choice result values.new ≡ chosen_answer a }
 {
-    *values = [a.time, a.rows, a.columns, a.salt, a.key];
-    a.refusal
+    match a {
+        Ok(c) => {
+            *values = [c.time, c.shape.rows, c.shape.columns, c.shortfall];
+            0
+        }
+        Err(refusal) => {
+            *values = [0; 4];
+            refusal.into()
+        }
+    }
 }
 
-// Stores the length of a login line, and returns the number of the answer.
-pub fn store_length(a: LineLength, length: &mut usize) -> u32
-    ensures { stored_length result length.new ≡ a }
+#[tactic(auto, unfolding(line_form::specs::Promises::no_values))]
+// Stores the values of a login line.
+pub fn store_values(a: Result<LineValues, Refusal>, values: &mut [usize; 5]) -> u32
+    ensures { stored_values result values.new ≡ values_answer a }
 {
-    *length = a.length;
-    a.refusal
+    match a {
+        Ok(v) => {
+            *values = [v.time, v.rows, v.columns, v.salt, v.key];
+            0
+        }
+        Err(refusal) => {
+            *values = [0; 5];
+            refusal.into()
+        }
+    }
 }
 
 // Stores the two numbers of a word of the record.

@@ -22,8 +22,8 @@ ghost use Rattle.book_check.specs.Promises.{AccountChecked};
 ghost use Rattle.c_answers.specs.Stored.{parameters, stored_parameters, lengths_of, limits_of, stored as «counts-stored», stored_choice, stored_values, stored_length, stored_place, stored_entry};
 
 use c_answers::{
-    store_choice, store_costs, store_entry, store_length, store_pair, store_place, store_row,
-    store_same, store_state, store_values,
+    store_check, store_choice, store_costs, store_entry, store_number, store_pair, store_place,
+    store_recording, store_values,
 };
 use choice::Limits;
 use mixer::Mixer;
@@ -96,9 +96,11 @@ pub extern "C" fn lyra2_check(
     ensures { Compared (parameters time rows columns rounds rotation mixer) (input password.now salt.now (length stored.now)) stored.now matrix.old matrix.new («counts-stored» result counts.new) same.new }
 {
     let p = gathered(time, rows, columns, rounds, rotation, mixer);
-    let a = checking::check(password, salt, p, stored, matrix);
-    store_same(a, same);
-    store_costs(a.costs, counts)
+    store_check(
+        checking::check(password, salt, p, stored, matrix),
+        same,
+        counts,
+    )
 }
 
 // The cost question. No cost depends on the rotation or on the mixer, so any will do.
@@ -178,9 +180,11 @@ pub extern "C" fn lyra2_lanes_check(
         rows,
         columns,
     };
-    let a = lanes_deriving::check_lanes(password, salt, p, lanes, stored, matrix);
-    store_same(a, same);
-    store_costs(a.costs, counts)
+    store_check(
+        lanes_deriving::check_lanes(password, salt, p, lanes, stored, matrix),
+        same,
+        counts,
+    )
 }
 
 // The cost question for several lanes.
@@ -243,7 +247,7 @@ pub extern "C" fn lyra2_choose(
 pub extern "C" fn lyra2_walk(rows: usize, row0: usize, row1: &mut usize) -> u32
     ensures { (result ≡ (walk_answer rows row0).refusal) × (row1.new ≡ (walk_answer rows row0).row1) }
 {
-    store_row(walk_question::walk(rows, row0), row1)
+    store_number(walk_question::walk(rows, row0), row1)
 }
 
 // The recorded derivation: fills the key, the used matrix, the used record and the state after the last visit.
@@ -266,9 +270,11 @@ pub extern "C" fn lyra2_derive_recorded(
     ensures { Recorded (parameters time rows columns rounds rotation mixer) (input password.now salt.now (length key.old)) key.old matrix.old «record».old key.new matrix.new «record».new («counts-stored» result counts.new) state.new }
 {
     let p = gathered(time, rows, columns, rounds, rotation, mixer);
-    let a = recorded::derive_recorded(password, salt, p, key, matrix, record);
-    store_state(a, state);
-    store_costs(a.costs, counts)
+    store_recording(
+        recorded::derive_recorded(password, salt, p, key, matrix, record),
+        state,
+        counts,
+    )
 }
 
 // The two numbers of a word of the record, which is any word.
@@ -310,7 +316,7 @@ pub extern "C" fn lyra2_line_write(
         rows,
         columns,
     };
-    store_length(line_writing::write_line(p, salt, key, line), length)
+    store_number(line_writing::write_line(p, salt, key, line), length)
 }
 
 // Finds an account in a book: the place of its mark is stored.

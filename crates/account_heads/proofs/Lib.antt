@@ -1,0 +1,2 @@
+-- What the tests of an account in front say.
+pub mod Tests

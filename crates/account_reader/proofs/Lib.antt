@@ -1,0 +1,2 @@
+-- The laws of a reader's steps.
+pub mod StepLaws

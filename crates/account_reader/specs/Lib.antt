@@ -1,0 +1,2 @@
+-- The steps of a reader.
+pub mod Steps

@@ -1,0 +1,2 @@
+-- A loop over a reader's accounts.
+pub mod Walks
