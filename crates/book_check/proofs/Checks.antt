@@ -1,27 +1,28 @@
 -- The checks of an account's check: those of the check of a stored key that an account keeps, and what a refused check answers.
 -- Assumes nothing.
 use mathlib.Core.Path.{◌≡◌, refl, sym, ap, ap₂, subst, ◌∙◌}
-use Prim.Native.Nat.{ℕ, ◌+◌, ◌-◌, ◌≤◌}
+use Prim.Native.Nat.{ℕ, ◌+◌, ◌-◌, ◌≤◌, ◌<◌}
 use native.Mathlib.Omega.{arith}
-use mathlib.Core.Bool.{true, false}
+use mathlib.Core.Bool.{true}
 use mathlib.Core.List.{List, [], ◌∷◌, ◌++◌}
 use lib.ListN.{length, take, drop, length-drop}
 use lib.Seq.{drop-drop}
+use Rattle.std.specs.Prelude.{Option, Some}
 use Rattle.settings.specs.Settings.{usual}
 use Rattle.settings.specs.declared.Parameters.{Parameters}
-use Rattle.refusals.specs.Checks.{Check, first, refuses, between, password_check, rotation_check, matrix_check, stored_checks, cost_checks, plain_checks}
-use Rattle.refusals.proofs.Accepted.{accepted, accepts, kept, first_refused, first_passed, more_refuse, more_pass}
+use Rattle.refusals.specs.Checks.{Check, first, password_check, rotation_check, matrix_check, stored_checks, cost_checks, plain_checks}
+use Rattle.refusals.proofs.Accepted.{accepted, accepts, first_passed, more_refuse, more_pass}
+use Rattle.refusals.proofs.Chained.{refused as refuse_first, passed}
 use Rattle.input.specs.Input.{input, lengths}
 use Rattle.derivation.specs.Answers.{Costs, no_costs}
 use Rattle.derivation.specs.Promises.{plain_number, Compared}
 use Rattle.derivation.proofs.Answering.{answered_no, cost_no}
 use Rattle.little_endian.proofs.ByteLaws.{AllBytes, take_bytes}
-use Rattle.accounts.specs.Accounts.{Account, head_bytes, head_of, is_whole, entry_of, account_of}
+use Rattle.accounts.specs.Accounts.{Account, head_bytes, head_of, is_whole, whole_entry, entry_of, account_of}
 use Rattle.accounts.specs.declared.Entry.{Entry}
-use Rattle.accounts.proofs.Decoding.{whole, size_is, entry_whole}
+use Rattle.accounts.proofs.Decoding.{whole, size_is, entry_whole, some_whole}
 use Rattle.accounts.specs.Book.{found}
-use Rattle.accounts.specs.Promises.{accounts_in, account_parameters, find_checks, find_number, find_answer, check_checks, check_number}
-use Rattle.accounts.specs.declared.BookAnswer.{BookAnswer}
+use Rattle.accounts.specs.Promises.{BookAnswer, accounts_in, account_parameters, find_checks, find_number, find_answer, check_checks, check_number}
 use Rattle.accounts.proofs.Changing.{found-account, found_good}
 use Rattle.accounts.proofs.Rewriting.{refusal_is, found_book, found-has, found_at}
 use Rattle.book_check.specs.Promises.{CheckedBy, KeyChecked, AccountChecked}
@@ -52,15 +53,15 @@ module _ (password book : List ℕ) (used number : ℕ) (matrix : List ℕ) wher
       → AccountChecked password book used number matrix matrix r same
   refused e h is not_same = record { answer = cost_no _ _ e h is; same_is = answered_no _ _ e h not_same; matrix_after = answered_no _ _ e h refl }
 
-  pub password_refused : refuses (password_check (length password)) ≡ true → {r : Costs} → r ≡ no_costs 2 → {same : ℕ} → same ≡ 0
+  pub password_refused : {n : ℕ} → n ≡ first (password_check (length password) ∷ []) → 0 < n → {r : Costs} → r ≡ no_costs n → {same : ℕ} → same ≡ 0
       → AccountChecked password book used number matrix matrix r same
   unfolding check_checks
-  password_refused h is not_same =
-      refused (sym (first_refused (password_check (length password)) (find_checks number used book ++ last) h)) (λ z. omega arith) is not_same
+  password_refused e h is not_same =
+      refused (refuse_first (password_check (length password) ∷ []) (find_checks number used book ++ last) e h) (λ z. omega arith) is not_same
 
-  module _ (short : refuses (password_check (length password)) ≡ false) where
+  module _ (short : 0 ≡ first (password_check (length password) ∷ [])) where
     finding : {n : ℕ} → n ≡ find_number number used book → n ≡ first before
-    finding e = e ∙ sym (first_passed (password_check (length password)) (find_checks number used book) short)
+    finding e = passed (password_check (length password) ∷ []) (find_checks number used book) (omega arith) short e
 
     pub find_refused : {f : BookAnswer} → f ≡ find_answer number used book → (f.refusal ≡ 0 → ⊥) → {r : Costs} → r ≡ no_costs f.refusal → {same : ℕ} → same ≡ 0
         → AccountChecked password book used number matrix matrix r same
@@ -82,11 +83,14 @@ module _ (password book : List ℕ) (used number : ℕ) (matrix : List ℕ) wher
         let only = (found_good u all is_book number here).within in
         let number_is : plain_number (usual a.parameters) (input password a.salt (length a.key)) matrix
         ≡ check_number (length password) number used book (length matrix) =
-        sym (matrix_decides password a matrix (kept (between 0 1024 (length password)) short).1.0 only)
+        sym (matrix_decides password a matrix (accepted (password_check (length password) ∷ []) (omega arith) (sym short)).0.1.0 only)
         ∙ more_pass before last (finding (refusal_is number used book to)) (omega arith) z refl in
         subst (λ (n : ℕ). CheckedBy n password a matrix matrix' r same) number_is (subst (λ (b : Account). KeyChecked password b matrix matrix' r same) it checked)
 
 -- ---- the parts of the account at a place, as the code lends them
+
+pub account_is : (u : List ℕ) {o : Option Entry} {e : Entry} → o ≡ whole_entry u → o ≡ Some e → e ≡ entry_of u
+account_is u told is = (some_whole u (sym is ∙ told)).1
 
 module _ (part : List ℕ) (place : ℕ) (w : is_whole (drop place part) ≡ true) {e : Entry} (is : e ≡ entry_of (drop place part)) where
   abbrev here : List ℕ

@@ -1,31 +1,21 @@
 // Whether the used bytes of a slice are a book, and finding an account in it.
 #![tactic(auto)]
 
-ghost use Rattle.std.specs.Prelude.{◌≡◌, not, [], ◌∷◌};
-ghost use Rattle.refusals.specs.Checks.{refuses, first};
-ghost use Rattle.refusals.specs.Refusals.{answer_number};
-ghost use Rattle.accounts.specs.Promises.{good_book, place_answer, find_answer};
+ghost use Rattle.std.specs.Prelude.{◌≡◌, MatchResult};
+ghost use Rattle.accounts.specs.Promises.{place_answer, find_answer};
+ghost use Rattle.book_finding.specs.Used.{IsUsed, IsNoBook};
 
 use account_numbers::are_distinct;
 use book_search::{is_run, place_of};
 use refusals::Refusal;
 
-// Whether the used length is within the slice and the used bytes are whole accounts with distinct numbers.
-pub fn is_book(book: &[u8], used: usize) -> bool
-    ensures { result ≡ not (refuses (good_book used book.now)) }
+// The used bytes, if the used length is within the slice and they are whole accounts with distinct numbers.
+pub fn used_book<'a>(book: &'a [u8], used: usize) -> Result<&'a [u8], Refusal>
+    ensures { MatchResult result (IsUsed used book.now) (IsNoBook used book.now) }
 {
-    used <= book.len() && is_run(&book[..used]) && are_distinct(&book[..used])
-}
-
-// The check of a book.
-#[tactic(auto, unfolding(refusals::specs::Checks::first))]
-pub fn check_book(book: &[u8], used: usize) -> Result<(), Refusal>
-    ensures { answer_number result ≡ first (good_book used book.now ∷ []) }
-{
-    if is_book(book, used) {
-        Ok(())
-    } else {
-        Err(Refusal::BookForm)
+    match book.get(..used) {
+        Some(part) if is_run(part) && are_distinct(part) => Ok(part),
+        _ => Err(Refusal::BookForm),
     }
 }
 
@@ -33,8 +23,7 @@ pub fn check_book(book: &[u8], used: usize) -> Result<(), Refusal>
 pub fn find(book: &[u8], used: usize, number: u32) -> Result<usize, Refusal>
     ensures { place_answer result ≡ find_answer number used book.now }
 {
-    check_book(book, used)?;
-    let place = place_of(&book[..used], number);
+    let place = place_of(used_book(book, used)?, number);
     if place == used {
         return Err(Refusal::NoAccount);
     }

@@ -1,5 +1,5 @@
 -- An answer under a C name: its number is returned, and its other fields are stored where the caller lends a place for them.
-use Rattle.std.specs.Prelude.{Bool, ℕ, List, get_or, Result, Ok, Err}
+use Rattle.std.specs.Prelude.{Bool, ℕ, List, get_or, Option, Some, None, Result, Ok, Err}
 use Rattle.mixer.specs.Mixers.{mixer_of}
 use Rattle.settings.specs.declared.Parameters.{Parameters}
 use Rattle.settings.specs.declared.StoredParameters.{StoredParameters}
@@ -9,7 +9,8 @@ use Rattle.derivation.specs.Answers.{Costs}
 use Rattle.choice.specs.declared.Limits.{Limits}
 use Rattle.choice.specs.Choice.{Choice}
 use Rattle.line_form.specs.Promises.{LineValues, LineLength}
-use Rattle.accounts.specs.declared.BookAnswer.{BookAnswer}
+use Rattle.accounts.specs.Accounts.{nothing}
+use Rattle.accounts.specs.Promises.{BookAnswer}
 use Rattle.accounts.specs.declared.Entry.{Entry}
 
 abbrev pub parameters : ℕ → ℕ → ℕ → ℕ → ℕ → Bool → Parameters
@@ -74,3 +75,7 @@ stored_entry size values =
 abbrev pub given_or : {A : Type 0} → A → Result A Refusal → A
 given_or zeros (Ok a) = a
 given_or zeros (Err r) = zeros
+
+abbrev pub entry_or_nothing : Option Entry → Entry
+entry_or_nothing (Some e) = e
+entry_or_nothing None = nothing

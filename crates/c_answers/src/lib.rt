@@ -9,9 +9,9 @@ ghost use Rattle.checking.specs.Answers.{checked_costs, checked_same};
 ghost use Rattle.recorded.specs.Answers.{recorded_costs, recorded_state};
 ghost use Rattle.choice.specs.Choice.{chosen_answer};
 ghost use Rattle.line_form.specs.Promises.{values_answer};
-ghost use Rattle.c_answers.specs.Stored.{stored as «counts-stored», stored_choice, stored_values, stored_place, stored_entry, given_or};
+ghost use Rattle.c_answers.specs.Stored.{stored as «counts-stored», stored_choice, stored_values, stored_entry, entry_or_nothing, given_or};
 
-use accounts::{BookAnswer, Entry};
+use accounts::Entry;
 use checking::Checked;
 use choice::ChosenCosts;
 use derivation::Spent;
@@ -131,19 +131,20 @@ pub fn store_pair(a: Pair, numbers: &mut [u64; 2])
     *numbers = [a.low as u64, a.high as u64];
 }
 
-// Stores a place in a book of accounts, and returns the number of the answer.
-pub fn store_place(a: BookAnswer, place: &mut usize) -> u32
-    ensures { stored_place result place.new ≡ a }
+#[tactic(auto, unfolding(accounts::specs::Accounts::nothing))]
+// Stores the numbers of an account, and returns its size, 0 where there is none.
+pub fn store_entry(found: Option<Entry>, values: &mut [usize; 6]) -> usize
+    ensures { stored_entry result values.new ≡ entry_or_nothing found }
 {
-    *place = a.place;
-    a.refusal
-}
-
-// Stores the numbers of an account, and returns its size.
-pub fn store_entry(e: Entry, values: &mut [usize; 6]) -> usize
-    ensures { stored_entry result values.new ≡ e }
-{
-    let p = e.parameters;
-    *values = [e.number as usize, p.time, p.rows, p.columns, e.salt, e.key];
-    e.size
+    match found {
+        Some(e) => {
+            let p = e.parameters;
+            *values = [e.number as usize, p.time, p.rows, p.columns, e.salt, e.key];
+            e.size
+        }
+        None => {
+            *values = [0; 6];
+            0
+        }
+    }
 }

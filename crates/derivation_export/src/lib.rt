@@ -22,8 +22,8 @@ ghost use Rattle.book_check.specs.Promises.{AccountChecked};
 ghost use Rattle.c_answers.specs.Stored.{parameters, stored_parameters, lengths_of, limits_of, stored as «counts-stored», stored_choice, stored_values, stored_length, stored_place, stored_entry};
 
 use c_answers::{
-    store_check, store_choice, store_costs, store_entry, store_number, store_pair, store_place,
-    store_recording, store_values,
+    store_check, store_choice, store_costs, store_entry, store_number, store_pair, store_recording,
+    store_values,
 };
 use choice::Limits;
 use mixer::Mixer;
@@ -298,6 +298,7 @@ pub extern "C" fn lyra2_line_read(
     store_values(line_reading::read_line(line, salt, key), values)
 }
 
+#[tactic(auto, using(c_answers::proofs::Given::length_given))]
 // Writes a login line at the start of the output.
 #[unsafe(no_mangle)]
 pub extern "C" fn lyra2_line_write(
@@ -319,14 +320,16 @@ pub extern "C" fn lyra2_line_write(
     store_number(line_writing::write_line(p, salt, key, line), length)
 }
 
+#[tactic(auto, using(c_answers::proofs::Given::place_given))]
 // Finds an account in a book: the place of its mark is stored.
 #[unsafe(no_mangle)]
 pub extern "C" fn lyra2_book_find(book: &[u8], used: usize, number: u32, place: &mut usize) -> u32
     ensures { stored_place result place.new ≡ find_answer number used book.now }
 {
-    store_place(book_finding::find(book, used, number), place)
+    store_number(book_finding::find(book, used, number), place)
 }
 
+#[tactic(auto, using(c_answers::proofs::Given::place_given))]
 // Adds an account to a book, in place of one of its number: the new used length is stored.
 #[unsafe(no_mangle)]
 pub extern "C" fn lyra2_book_add(
@@ -347,12 +350,13 @@ pub extern "C" fn lyra2_book_add(
         rows,
         columns,
     };
-    store_place(
+    store_number(
         book_changes::add(book, used, number, p, salt, key),
         used_after,
     )
 }
 
+#[tactic(auto, using(c_answers::proofs::Given::place_given))]
 // Removes an account from a book: the new used length is stored.
 #[unsafe(no_mangle)]
 pub extern "C" fn lyra2_book_remove(
@@ -363,7 +367,7 @@ pub extern "C" fn lyra2_book_remove(
 ) -> u32
     ensures { Removed number used book.old book.new (stored_place result used_after.new) }
 {
-    store_place(book_changes::remove(book, used, number), used_after)
+    store_number(book_changes::remove(book, used, number), used_after)
 }
 
 // Checks a password against an account of a book: `same` becomes 1 where its key is the password's, else 0.
@@ -379,11 +383,14 @@ pub extern "C" fn lyra2_book_check(
 ) -> u32
     ensures { AccountChecked password.now book.now used number matrix.old matrix.new («counts-stored» result counts.new) same.new }
 {
-    let a = book_check::check_account(password, book, used, number, matrix);
-    store_same(a, same);
-    store_costs(a.costs, counts)
+    store_check(
+        book_check::check_account(password, book, used, number, matrix),
+        same,
+        counts,
+    )
 }
 
+#[tactic(auto, using(c_answers::proofs::Given::entry_is))]
 // The account at a place of the used part of a book: its numbers are stored, and its size is returned, 0 where there is none.
 #[unsafe(no_mangle)]
 pub extern "C" fn lyra2_book_account(book: &[u8], place: usize, values: &mut [usize; 6]) -> usize

@@ -25,14 +25,11 @@ pub fn put_steps(out: &mut [u8], rows: usize) -> usize
     requires { (3 ≤ rows) × (rows ≤ 16384) × (output_bytes ≤ length out.old) }
     ensures { Appended out.old out.new 0 (step_lines (rows - 3)) result }
 {
-    let last = rows - 1;
     let mut order = Order::first();
     let mut at = 0;
-    let mut row = 3;
-    while row <= last {
+    for row in 3..rows {
         at = append_line(out, at, row, order.row1);
         order = order.next();
-        row += 1;
     }
     at
 }

@@ -1,0 +1,2 @@
+-- The laws of what is stored.
+pub mod Given
