@@ -6,7 +6,7 @@ ghost use Rattle.profile.specs.Profile.{cell_words};
 ghost use Rattle.cell_sums.specs.CellSum.{cell_sum};
 
 // Word j of the sum of three cells.
-pub fn sum3(a: &[u64], b: &[u64], c: &[u64], j: usize) -> u64
+pub fn sum3_at(a: &[u64], b: &[u64], c: &[u64], j: usize) -> u64
     requires { (length a.now ≡ cell_words) × (length b.now ≡ cell_words) × (length c.now ≡ cell_words) × (j < cell_words) }
     ensures { result ≡ get_or (cell_sum (cell_sum a.now b.now) c.now) j 0 }
 {
@@ -14,9 +14,9 @@ pub fn sum3(a: &[u64], b: &[u64], c: &[u64], j: usize) -> u64
 }
 
 // Word j of the sum of four cells.
-pub fn sum4(a: &[u64], b: &[u64], c: &[u64], d: &[u64], j: usize) -> u64
+pub fn sum4_at(a: &[u64], b: &[u64], c: &[u64], d: &[u64], j: usize) -> u64
     requires { (length a.now ≡ cell_words) × (length b.now ≡ cell_words) × (length c.now ≡ cell_words) × (length d.now ≡ cell_words) × (j < cell_words) }
     ensures { result ≡ get_or (cell_sum (cell_sum (cell_sum a.now b.now) c.now) d.now) j 0 }
 {
-    sum3(a, b, c, j).wrapping_add(d[j])
+    sum3_at(a, b, c, j).wrapping_add(d[j])
 }

@@ -7,7 +7,7 @@ ghost use Rattle.columns.specs.Bounds.{AtRows, Within};
 ghost use Rattle.columns.specs.Columns.{work};
 ghost use Rattle.lane_columns.specs.LaneColumns.{lane_column};
 
-use cell_sums::sum3;
+use cell_sums::sum3_at;
 use columns::Starts;
 use matrix::{cell, xor_cell};
 use picks::pick_columns;
@@ -24,7 +24,7 @@ pub fn lane_column(s: &mut [u64; 16], m: &mut [u64], rows: Starts, col: Column, 
     let row0 = cell(m, rows.row0, col);
     let prev0 = cell(m, rows.prev0, picks.col1);
     let row1 = cell(m, rows.row1, col);
-    duplex_each(s, |j| sum3(row0, prev0, row1, j), p.rounds, p.mixer);
+    duplex_each(s, |j| sum3_at(row0, prev0, row1, j), p.rounds, p.mixer);
     let at = rows.row0.cell_start(col);
     let rand = output(s);
     xor_cell(m, at, &rand);

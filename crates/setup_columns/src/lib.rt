@@ -6,7 +6,7 @@ ghost use Rattle.settings.specs.Settings.{settings};
 ghost use Rattle.columns.specs.Bounds.{AtRows, Apart, Within};
 ghost use Rattle.columns.specs.Columns.{work, mirrored, duplexed, setup_cells, setup_written, setup_column};
 
-use cell_sums::sum3;
+use cell_sums::sum3_at;
 use columns::Starts;
 use matrix::{cell, put_cell, write_rotated, xor_turned, xored};
 use places::Column;
@@ -22,7 +22,7 @@ fn duplex_setup(s: &mut [u64; 16], m: &[u64], rows: Starts, col: Column, p: Para
     let row1 = cell(m, rows.row1, col);
     let prev0 = cell(m, rows.prev0, col);
     let prev1 = cell(m, rows.prev1, col);
-    duplex_each(s, |j| sum3(row1, prev0, prev1, j), p.rounds, p.mixer);
+    duplex_each(s, |j| sum3_at(row1, prev0, prev1, j), p.rounds, p.mixer);
 }
 
 // What it then writes. The usual rotation is written out here, so that it pays for a comparison and no more.

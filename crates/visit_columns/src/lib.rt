@@ -6,7 +6,7 @@ ghost use Rattle.settings.specs.Settings.{settings};
 ghost use Rattle.columns.specs.Bounds.{AtRows, Within, Picked};
 ghost use Rattle.columns.specs.Columns.{duplexed, visit_cells, visit_written};
 
-use cell_sums::sum4;
+use cell_sums::sum4_at;
 use columns::{Picks, Starts};
 use matrix::{cell, write_rotated, xor_cell, xor_turned};
 use picks::pick_columns;
@@ -24,7 +24,12 @@ fn duplex_visit(s: &mut [u64; 16], m: &[u64], rows: Starts, col: Column, at: Pic
     let row1 = cell(m, rows.row1, col);
     let prev0 = cell(m, rows.prev0, at.col0);
     let prev1 = cell(m, rows.prev1, at.col1);
-    duplex_each(s, |j| sum4(row0, row1, prev0, prev1, j), p.rounds, p.mixer);
+    duplex_each(
+        s,
+        |j| sum4_at(row0, row1, prev0, prev1, j),
+        p.rounds,
+        p.mixer,
+    );
 }
 
 // What it then writes; where the two rows are one, both XORs fall on the same cell. The usual rotation is

@@ -1,7 +1,7 @@
 -- Sum by sum. Assumes nothing.
 use Rattle.std.proofs.Common.{refl, arith}
 use Rattle.cell_sums.proofs.Sums.{length_sum, sum_at}
-use Rattle.cell_sums.proofs.sum3.Goals as goal
+use Rattle.cell_sums.proofs.sum3_at.Goals as goal
 
 pub returns : goal.returns
 returns c =
