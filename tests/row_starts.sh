@@ -1,7 +1,8 @@
 #!/usr/bin/env bash
 # The loops over the columns of a row, and what they call, multiply no two numbers that the program computes but for BlaMka's two halves
 # of state words, so no row number by C: where rows start is found before them. That product and those by a literal are listed. Looked for
-# in the form that the compiler is given, where nothing has been moved yet; the kit leaves it in the libraries that it makes.
+# in the form that the compiler is given, where nothing has been moved yet; the kit leaves it in the libraries that it makes. A call through
+# a bound is one of the closures that the functions on the way make, whose names there are those of their makers.
 set -eu
 cd "$(dirname "$0")/.."
 exec python3 - <<'END'
@@ -50,11 +51,18 @@ class Function:
 
 def products(functions, crate, rows):
     """What is multiplied under the column loops of the functions `rows`, and how many functions stand there."""
-    seen, listed = set(), []
+    seen, listed, bounds, closures = set(), [], [], []
+
+    def reach_closures(maker):
+        crate_name, _, path = maker.partition("::")
+        made = [name for name in functions if name.startswith(f"{crate_name}::fn::{path}::")]
+        closures.extend(made)
+        for name in made:
+            reach(name)
 
     def reach(name):
         if name == "?":
-            sys.exit("what is called under a column loop is not known")
+            bounds.append(name)
         if name in seen or name not in functions:
             return
         seen.add(name)
@@ -62,6 +70,7 @@ def products(functions, crate, rows):
         listed.extend(it.products[False] + it.products[True])
         for callee, _ in it.calls:
             reach(callee)
+        reach_closures(name)
 
     for row in rows:
         it = functions[f"{crate}::{row}"]
@@ -71,6 +80,9 @@ def products(functions, crate, rows):
             sys.exit(f"{crate}::{row} has no loop with a call")
         for callee in inner:
             reach(callee)
+        reach_closures(f"{crate}::{row}")
+    if bounds and not closures:
+        sys.exit("what is called under a column loop is not known")
     return listed, len(seen)
 
 
@@ -92,6 +104,10 @@ def call(name):
     return {"Call": [{"Fn": [name, {}]}, [], {"local": 9, "steps": []}]}
 
 
+def bound():
+    return {"Call": [{"Method": [{"Given": 0}, 0, {}]}, [], {"local": 9, "steps": []}]}
+
+
 def number(n):
     return {"Int": {"width": 64, "value": n}}
 
@@ -100,16 +116,17 @@ def made_up(factor):
     loop = ["Seq", product(number(2), local(3)), "Seq", product(local(3), number(8)), "Seq", {"If": local(3)}, "Skip", {"Exit": 1}, call("made::column")]
     row = ["Seq", product(local(1), number(3)), "Seq", call("made::before"), "Seq", "Block", "Loop", *loop, product(local(1), local(2))]
     return read([("made::row", {"body": row}), ("made::before", {"body": [product(local(1), local(2))]}),
-                 ("made::column", {"body": [call("made::cell")]}), ("made::cell", {"body": [product(local(3), factor)]})])
+                 ("made::column", {"body": ["Seq", call("made::cell"), call("made::each")]}), ("made::cell", {"body": [product(local(3), factor)]}),
+                 ("made::each", {"body": [bound()]}), ("made::fn::column::each", {"body": [product(local(3), number(5))]})])
 
 
 def agrees(listed, expected):
     return sorted(listed) == sorted(expected)
 
 
-if not agrees(products(made_up(number(12)), "made", ["row"])[0], ["made::row*2", "made::cell*12"]):
+if not agrees(products(made_up(number(12)), "made", ["row"])[0], ["made::row*2", "made::cell*12", "made::fn::column::each*5"]):
     sys.exit("the products of the made-up form are not listed")
-for expected in (["made::row*2", "made::cell*12"], ["made::row*2"], []):
+for expected in (["made::row*2", "made::cell*12", "made::fn::column::each*5"], ["made::row*2", "made::cell*12"], ["made::row*2"], []):
     if agrees(products(made_up(local(2)), "made", ["row"])[0], expected):
         sys.exit(f"a product of two numbers passes: it lists {expected}")
 
