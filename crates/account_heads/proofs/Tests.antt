@@ -10,19 +10,14 @@ use borrow.Author.Tests.{leb-true, leb-false}
 use Rattle.std.specs.Prelude.{Bool, true, false, Option, Some, None, Result, Ok, Err}
 use Rattle.std.specs.Bool.{then_some}
 use Rattle.std.specs.Result.{result_ok}
-use Rattle.std.specs.List.{starts_with}
 use Rattle.refusals.specs.declared.Refusal.{Refusal}
 use Rattle.refusals.specs.Refusals.{answer_number}
 use Rattle.refusals.proofs.Chained.{number_above}
 use Rattle.refusals.specs.Checks.{first}
 use Rattle.text.specs.Text.{stands_at}
-use Rattle.text.proofs.Standing.{standing}
 use Rattle.accounts.specs.declared.Entry.{Entry}
 use Rattle.accounts.specs.Accounts.{mark, head_of, limits, whole_entry}
 use Rattle.accounts.proofs.Decoding.{is_whole_lem, cut_off, whole_some, whole_none}
-
-pub in_front : (u text : List ℕ) → starts_with eqb u text ≡ stands_at u 0 text
-in_front u text = ap (λ (l : List ℕ). starts_with eqb l text) (sym (take_all (length u - 0) u (omega arith))) ∙ standing u 0 text
 
 module _ {A : Type 0} where
   pub no_ok : (x : Result A Refusal) → None ≡ result_ok x → 0 < answer_number x

@@ -8,6 +8,7 @@ use accounts::Entry;
 use little_endian::load_number;
 use refusals::check_stored;
 use settings::StoredParameters;
+use text::stands_at;
 
 // The bytes of an account before its salt.
 pub const HEAD_BYTES: usize = 14;
@@ -45,7 +46,7 @@ fn head_of(bytes: &[u8]) -> Entry
 pub fn whole_entry(bytes: &[u8]) -> Option<Entry>
     ensures { result ≡ whole_entry bytes.now }
 {
-    if bytes.len() < HEAD_BYTES || !bytes.starts_with(b"AC") {
+    if bytes.len() < HEAD_BYTES || !stands_at(bytes, 0, b"AC") {
         return None;
     }
     let entry = head_of(bytes);

@@ -4,9 +4,9 @@ use Rattle.refusals.specs.Checks.{first}
 use Rattle.accounts.specs.declared.Entry.{Entry}
 use Rattle.accounts.specs.Accounts.{mark, limits}
 use Rattle.accounts.proofs.Decoding.{size_is, unmarked, outside, cut_off, whole_none}
-use Rattle.account_heads.proofs.Tests.{in_front, no_ok, an_ok, last_test}
+use Rattle.account_heads.proofs.Tests.{no_ok, an_ok, last_test}
 use Rattle.account_heads.proofs.whole_entry.Goals as goal
-use Rattle.account_heads.proofs.whole_entry.Goals.{then-bytes-lt-HEAD_BYTES-via-then-bytes-lt-HEAD_BYTES, then-bytes-lt-HEAD_BYTES-via-else-bytes-lt-HEAD_BYTES+then-not-starts_with}
+use Rattle.account_heads.proofs.whole_entry.Goals.{then-bytes-lt-HEAD_BYTES-via-then-bytes-lt-HEAD_BYTES, then-bytes-lt-HEAD_BYTES-via-else-bytes-lt-HEAD_BYTES+then-not-stands_at}
 
 pub returns-then-bytes-lt-HEAD_BYTES : goal.returns-then-bytes-lt-HEAD_BYTES
 returns-then-bytes-lt-HEAD_BYTES c =
@@ -14,8 +14,8 @@ returns-then-bytes-lt-HEAD_BYTES c =
     sym (whole_none u
     (elim c.then-bytes-lt-HEAD_BYTES.branch [
       | then-bytes-lt-HEAD_BYTES-via-then-bytes-lt-HEAD_BYTES w ↦ cut_off u (omega (arith, size_is u))
-      | then-bytes-lt-HEAD_BYTES-via-else-bytes-lt-HEAD_BYTES+then-not-starts_with w ↦
-          unmarked u (sym (w.starts_with.ensures.value ∙ in_front u mark) ∙ w.if-not-starts_with.true)
+      | then-bytes-lt-HEAD_BYTES-via-else-bytes-lt-HEAD_BYTES+then-not-stands_at w ↦
+          unmarked u (sym w.stands_at.ensures ∙ w.if-not-stands_at.true)
     ]))
 
 pub returns-in_err-ok : goal.returns-in_err-ok
@@ -30,5 +30,5 @@ returns c =
     let u = c.args.bytes.now in
     let limited = ap (λ (e : Entry). first (limits e)) c.head_of-entry.ensures in
     let passed = an_ok c.check_stored.result c.in_ok-ok.ensures.value in
-    last_test u c.head_of-entry.ensures (sym (c.starts_with.ensures.value ∙ in_front u mark) ∙ c.if-not-starts_with.false)
+    last_test u c.head_of-entry.ensures (sym c.stands_at.ensures ∙ c.if-not-stands_at.false)
     (omega (arith, passed, c.check_stored.ensures, limited)) c.then_some.ensures
