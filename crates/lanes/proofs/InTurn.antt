@@ -2,7 +2,7 @@
 use mathlib.Core.Path.{◌≡◌, refl, sym, ap, ap₂, ◌∙◌}
 use mathlib.Core.Logic.{◌⊎◌, inl, inr}
 use Prim.Native.Nat.{ℕ, zero, suc, ◌+◌, ◌-◌, ◌*◌, ◌/◌, ◌≤◌, ◌<◌, min}
-use native.Mathlib.Nat.{add-zero, add-suc, mul-le-mul, le_trans, mul-le-mul_right, mul-le-mul_left, one-mul, zero-mul, mul-add, add-mul}
+use native.Mathlib.Nat.{add-zero, add-suc, mul-le-mul, le_trans, mul-le-mul_right, mul-le-mul_left, one-mul, mul-one, zero-mul, mul-add, add-mul, suc-mul}
 use native.Mathlib.Decide.{ℕ_discrete, dec_lt}
 use native.Mathlib.Numerals.{add-one}
 use native.Mathlib.Omega.{arith}
@@ -81,6 +81,25 @@ module _ (sqrt : ℕ) where
   unfolding first_visit
   visits_reached all zero h = omega (arith, zero-mul sqrt)
   visits_reached all (suc k) h = omega arith
+
+  -- the next interval begins sqrt visits later, and the second one after sqrt + 1
+  pub visit-first : first_visit sqrt 1 ≡ sqrt + 1
+  unfolding first_visit
+  visit-first = ap (λ (n : ℕ). n + 1) (one-mul sqrt)
+
+  pub visit_next : (t : ℕ) → first_visit sqrt (suc (suc t)) ≡ first_visit sqrt (suc t) + sqrt
+  unfolding first_visit
+  visit_next t = omega (arith, suc-mul (suc t) sqrt)
+
+  -- as many visits as intervals, at least, and no more than sqrt + 1 in one
+  pub visit_least : 1 ≤ sqrt → (t : ℕ) → t ≤ first_visit sqrt t
+  unfolding first_visit
+  visit_least pos zero = omega arith
+  visit_least pos (suc t) = omega (arith, mul-le-mul_left (suc t) pos, mul-one (suc t))
+
+  pub visit_steps : 1 ≤ sqrt → (t : ℕ) → (first_visit sqrt t < first_visit sqrt (suc t)) × (first_visit sqrt (suc t) ≤ first_visit sqrt t + sqrt + 1)
+  visit_steps pos zero = omega (arith, visit-first, visit-zero)
+  visit_steps pos (suc t) = omega (arith, visit_next t)
 
 -- an interval has the steps from its first one on, of which there are none past the last of all
 pub steps_between : (a b all first end : ℕ) → first ≡ min a all → end ≡ min b all → end - first ≡ min b all - a

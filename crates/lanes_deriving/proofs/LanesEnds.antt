@@ -152,7 +152,7 @@ begun_all (suc n) x = ap (λ (l : List (List ℕ)). x.state ∷ l) (begun_all n 
 pub begun_states : (n : ℕ) (x : Lane) → x.state ≡ start → n ≤ 8 → states_of (take n (replicate 8 x)) ≡ replicate n start
 begun_states n x e le = ap states_of (take-replicate n 8 x le) ∙ begun_all n x ∙ ap (replicate n) e
 
-pub begun_length : (n : ℕ) (x : Lane) → n ≤ 8 → length (take n (replicate 8 x)) ≡ n
+pub begun_length : {A : Type 0} (n : ℕ) (x : A) → n ≤ 8 → length (take n (replicate 8 x)) ≡ n
 begun_length n x le = ap length (take-replicate n 8 x le) ∙ length-replicate n x
 
 -- counts of which one went through the clearing
