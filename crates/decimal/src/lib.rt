@@ -18,7 +18,8 @@ fn digit(n: usize, place: usize) -> u8
     requires { place < 5 }
     ensures { result ≡ 48 + n / 10 ^ place % 10 }
 {
-    b'0' + (n / 10usize.pow(place as u32) % 10) as u8
+    let powers = [1, 10, 100, 1_000, 10_000];
+    b'0' + (n / powers[place] % 10) as u8
 }
 
 // Puts the digits of n at a place of the buffer, and answers where they end.
