@@ -7,7 +7,7 @@ use Rattle.line_reading.proofs.read_line.Goals as goal
 pub returns-in_err-texts : goal.returns-in_err-texts
 returns-in_err-texts c =
     read_refused _ _ _ _ (handed_is _ _ c.from_residual.ensures)
-    (form_number c.args.line.now (length c.args.salt.now) (length c.args.key.now) _ (c.in_err-texts.ensures.0, c.in_err-texts.ensures.1.0))
+    (form_number c.args.line.now (length c.args.salt.now) (length c.args.key.now) _ (c.in_err-texts.ensures.0, c.in_err-texts.ensures.1))
 
 pub returns-in_err-check_said : goal.returns-in_err-check_said
 returns-in_err-check_said c =
